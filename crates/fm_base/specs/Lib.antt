@@ -1,0 +1,4 @@
+pub mod Interpretations
+pub mod Models
+pub mod Refusals
+pub mod Truth

@@ -1,0 +1,126 @@
+-- Every good clause line holds in every interpretation of the signature, whatever the terms' values are. So the
+-- claim of a good block holds.
+use Rattle.std.proofs.Common.{◌≡◌, ◌≢◌, ℕ, zero, suc, ◌+◌, ◌<◌, ◌≤◌, ◌⊎◌, inl, inr, Bool, true, false, ◌||◌, not, List, [], ◌∷◌, ◌++◌, length, Option, Some, None, ap, refl, sym, subst, ◌∙◌, arith, add-one}
+use Rattle.std.specs.Prelude.{nat_le, slice_get}
+use Rattle.std.specs.List.{list_any}
+use Rattle.std.proofs.lemmas.Bool.{or_cases, or_left, or_right, cases_Bool, leb-true, leb-false, le-leb, lt-leb, not_from_true, not_from_false, not-true, both_ways, false≢true, true≢false}
+use Rattle.fm_base.specs.Interpretations.{Reading, IsInterpretation, reading_of}
+use Rattle.fm_base.specs.Models.{sum_below, sum_of_sizes, IsModel}
+use Rattle.fm_base.specs.declared.signature.Sig.{Sig}
+use Rattle.fm_bank.specs.declared.atom.Atom.{Atom}
+use Rattle.fm_bank.specs.Ground.{atom_true, lit_true}
+use Rattle.fm_cert.specs.Lines.{Clause, Has, SameSet, opposite, Resolves, Chain, at_most, more_than, above, sum_clause, total_above, IsGoodLine, AreGoodLines, clause_true}
+use Rattle.fm_cert.specs.Claims.{Problem, ShowsLeast, IsGoodEnding, IsGoodBlock, ClaimHolds}
+use Rattle.fm_cert.specs.declared.block.CertLit.{CertLit}
+use Rattle.fm_cert.specs.declared.block.Block.{Block}
+use Rattle.fm_cert.specs.declared.block.Claim.{Claim}
+use Rattle.fm_cert.specs.declared.block.Line.{Line}
+
+abbrev pub is_true : Sig → Reading → (ℕ → ℕ) → CertLit → Bool
+is_true sig m v l = lit_true sig m v l.positive l.atom
+
+pub true_member : (sig : Sig) (m : Reading) (v : ℕ → ℕ) (c : Clause) → clause_true sig m v c ≡ true → (k : CertLit) × Has c k × (is_true sig m v k ≡ true)
+true_member sig m v [] e = absurd (false≢true e)
+true_member sig m v (k ∷ ks) e =
+    elim (or_cases (is_true sig m v k) (clause_true sig m v ks) e) [
+      | inl h ↦ (k, inl refl, h)
+      | inr h ↦ let rest = true_member sig m v ks h in (rest.0, inr rest.1, rest.2)
+    ]
+
+pub member_true : (sig : Sig) (m : Reading) (v : ℕ → ℕ) (c : Clause) (k : CertLit) → Has c k → is_true sig m v k ≡ true → clause_true sig m v c ≡ true
+member_true sig m v [] k h t = absurd h
+member_true sig m v (x ∷ xs) k h t =
+    elim h [
+      | inl same ↦ or_left (is_true sig m v x) (clause_true sig m v xs) (subst (λ (l : CertLit). is_true sig m v l ≡ true) (sym same) t)
+      | inr rest ↦ or_right (is_true sig m v x) (clause_true sig m v xs) (member_true sig m v xs k rest t)
+    ]
+
+pub opposite-is_true : (sig : Sig) (m : Reading) (v : ℕ → ℕ) (positive : Bool) (a : Atom) → lit_true sig m v positive a ≡ true → lit_true sig m v (not positive) a ≡ false
+opposite-is_true sig m v true a t = not_from_true (atom_true sig m v a) t
+opposite-is_true sig m v false a t = not-true (atom_true sig m v a) t
+
+-- the truths of a true and a false literal differ, so the literals do
+pub differ : (sig : Sig) (m : Reading) (v : ℕ → ℕ) (k l : CertLit) → is_true sig m v k ≡ true → is_true sig m v l ≡ false → k ≢ l
+differ sig m v k l t f same = both_ways (is_true sig m v l) f (subst (λ (x : CertLit). is_true sig m v x ≡ true) same t)
+
+pub resolvent_true : (sig : Sig) (m : Reading) (v : ℕ → ℕ) (a : Clause) (l : CertLit) (b result : Clause) → Resolves a l b result → clause_true sig m v a ≡ true → clause_true sig m v b ≡ true → clause_true sig m v result ≡ true
+resolvent_true sig m v a l b result r ta tb =
+    elim (cases_Bool (is_true sig m v l)) [
+      | inl pivot ↦
+          let k = true_member sig m v b tb in
+          let ne = differ sig m v k.0 (opposite l) k.2 (opposite-is_true sig m v l.positive l.atom pivot) in
+          member_true sig m v result k.0 ((r.exactly k.0).1 (inr (k.1, ne))) k.2
+      | inr pivot ↦
+          let k = true_member sig m v a ta in
+          let ne = differ sig m v k.0 l k.2 pivot in
+          member_true sig m v result k.0 ((r.exactly k.0).1 (inl (k.1, ne))) k.2
+    ]
+
+abbrev pub AllTrue : Sig → Reading → (ℕ → ℕ) → List Clause → Type 0
+AllTrue sig m v [] = Unit {0}
+AllTrue sig m v (c ∷ cs) = (clause_true sig m v c ≡ true) × AllTrue sig m v cs
+
+pub AllTrue-at : (sig : Sig) (m : Reading) (v : ℕ → ℕ) (cs : List Clause) (i : ℕ) (c : Clause) → AllTrue sig m v cs → slice_get cs i ≡ Some c → clause_true sig m v c ≡ true
+AllTrue-at sig m v [] i c h e = cc
+AllTrue-at sig m v (x ∷ xs) zero c h e = let same : x ≡ c = cc e in subst (λ (y : Clause). clause_true sig m v y ≡ true) same h.0
+AllTrue-at sig m v (x ∷ xs) (suc i) c h e = AllTrue-at sig m v xs i c h.1 e
+
+pub AllTrue-push : (sig : Sig) (m : Reading) (v : ℕ → ℕ) (cs : List Clause) (c : Clause) → AllTrue sig m v cs → clause_true sig m v c ≡ true → AllTrue sig m v (cs ++ c ∷ [])
+AllTrue-push sig m v [] c h t = (t, tt)
+AllTrue-push sig m v (x ∷ xs) c h t = (h.0, AllTrue-push sig m v xs c h.1 t)
+
+pub chain_true : (sig : Sig) (m : Reading) (v : ℕ → ℕ) (earlier : List Clause) (now : Clause) (steps : List (CertLit × ℕ)) (result : Clause) → AllTrue sig m v earlier → clause_true sig m v now ≡ true → Chain earlier now steps result → clause_true sig m v result ≡ true
+chain_true sig m v earlier now [] result h t same =
+    let k = true_member sig m v now t in
+    member_true sig m v result k.0 ((same k.0).0 k.1) k.2
+chain_true sig m v earlier now (step ∷ steps) result h t (other, next, found, resolves, rest) =
+    chain_true sig m v earlier next steps result h (resolvent_true sig m v now step.0 other next resolves t (AllTrue-at sig m v earlier step.1 other h found)) rest
+
+pub sum_below-more : (s : ℕ) (f : ℕ → ℕ) → sum_below (s + 1) f ≡ sum_below s f + f s
+unfolding sum_below
+sum_below-more s f = rw add-one refl
+
+pub sum_true : (sig : Sig) (m : Reading) (v : ℕ → ℕ) (s : ℕ) (ks : List ℕ) (n acc : ℕ) → acc ≤ sum_below s m.size → n < acc + total_above ks → s + length ks ≡ sig.sorts → clause_true sig m v (sum_clause s ks n) ≡ true
+sum_true sig m v s [] n acc small lt all =
+    let here : s ≡ sig.sorts = omega (arith, all) in
+    let small' : acc ≤ sum_below sig.sorts m.size = subst (λ i. acc ≤ sum_below i m.size) here small in
+    or_left (not (nat_le (sum_of_sizes sig m) n)) false (not_from_false (nat_le (sum_of_sizes sig m) n) (lt-leb (sum_of_sizes sig m) n (omega arith)))
+sum_true sig m v s (k ∷ ks) n acc small lt all =
+    elim (cases_Bool (nat_le (m.size s) k)) [
+      | inl few ↦ or_left (nat_le (m.size s) k) (clause_true sig m v (sum_clause (s + 1) ks n)) few
+      | inr many ↦
+          let more : k < m.size s = leb-false (m.size s) k many in
+          or_right (nat_le (m.size s) k) (clause_true sig m v (sum_clause (s + 1) ks n)) (sum_true sig m v (s + 1) ks n (acc + (k + 1)) (rw sum_below-more (omega arith)) (omega arith) (omega arith))
+    ]
+
+pub line_true : (sig : Sig) (m : Reading) (v : ℕ → ℕ) → IsInterpretation sig m → (earlier : List Clause) (line : Line) (c : Clause) → AllTrue sig m v earlier → IsGoodLine sig earlier line c → clause_true sig m v c ≡ true
+line_true sig m v is earlier (Line.Sum n ks) c h (long, big, made) = subst (λ (y : Clause). clause_true sig m v y ≡ true) (sym made) (sum_true sig m v 0 ks n 0 (omega arith) (omega arith) (omega arith))
+line_true sig m v is earlier (Line.OrderZero s) c h (within, made) =
+    let some : 1 ≤ m.size s.0 = is.inhabited s.0 within in
+    subst (λ (y : Clause). clause_true sig m v y ≡ true) (sym made) (or_left (not (nat_le (m.size s.0) 0)) false (not_from_false (nat_le (m.size s.0) 0) (lt-leb (m.size s.0) 0 (omega arith))))
+line_true sig m v is earlier (Line.Resolution first steps) c h (some, (start, found, chain)) = chain_true sig m v earlier start steps c h (AllTrue-at sig m v earlier first start h found) chain
+
+pub lines_true : (sig : Sig) (m : Reading) (v : ℕ → ℕ) → IsInterpretation sig m → (earlier : List Clause) (lines : List Line) (clauses : List Clause) → AllTrue sig m v earlier → AreGoodLines sig earlier lines clauses → AllTrue sig m v clauses
+lines_true sig m v is earlier [] clauses h same = subst (λ (cs : List Clause). AllTrue sig m v cs) (sym same) h
+lines_true sig m v is earlier (line ∷ lines) clauses h (c, good, rest) =
+    lines_true sig m v is (earlier ++ c ∷ []) lines clauses (AllTrue-push sig m v earlier c h (line_true sig m v is earlier line c h good)) rest
+
+abbrev pub no_values : ℕ → ℕ
+no_values t = 0
+
+pub least : (sig : Sig) (m : Reading) → IsInterpretation sig m → (lines : List Line) (clauses : List Clause) (n : ℕ) → AreGoodLines sig [] lines clauses → ShowsLeast clauses n → n ≤ sum_of_sizes sig m
+least sig m is lines clauses zero good shows = omega arith
+least sig m is lines clauses (suc n) good shows =
+    let holds = AllTrue-at sig m no_values clauses shows.0 (above n ∷ []) (lines_true sig m no_values is [] lines clauses tt good) shows.1 in
+    elim (or_cases (not (nat_le (sum_of_sizes sig m) n)) false holds) [
+      | inl t ↦ let big : n < sum_of_sizes sig m = leb-false (sum_of_sizes sig m) n (not-true (nat_le (sum_of_sizes sig m) n) t) in omega arith
+      | inr f ↦ absurd (false≢true f)
+    ]
+
+pub ending_holds : (p : Problem) (lines : List Line) (clauses : List Clause) (claim : Claim) → AreGoodLines p.sig [] lines clauses → IsGoodEnding p clauses claim → ClaimHolds p claim
+ending_holds p lines clauses Claim.Unsat good (i, e) = λ m is. false≢true (AllTrue-at p.sig m no_values clauses i [] (lines_true p.sig m no_values is.interprets [] lines clauses tt good) e)
+ending_holds p lines clauses (Claim.Sat sum model) good (shows, fit, is, total) = (is, total, λ m other. least p.sig m other.interprets lines clauses sum good shows)
+ending_holds p lines clauses (Claim.Unknown instances decisions) good ending = tt
+
+pub blocks-sound : (p : Problem) (block : Block) → IsGoodBlock p block → ClaimHolds p block.claim
+blocks-sound p block good = ending_holds p block.lines good.clauses block.claim good.lines good.ending

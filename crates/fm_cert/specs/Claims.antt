@@ -1,0 +1,55 @@
+-- What a block claims of the assertions in force, and what makes it good for them.
+use Rattle.std.specs.Prelude.{◌≡◌, ℕ, zero, suc, ◌+◌, ◌≤◌, true, List, [], ◌∷◌, slice_get, Some}
+use Rattle.fm_base.specs.Interpretations.{Reading, IsInterpretation, reading_of, is_fit}
+use Rattle.fm_base.specs.Models.{IsModel, sum_of_sizes}
+use Rattle.fm_base.specs.declared.formula.Formula.{Formula}
+use Rattle.fm_base.specs.declared.signature.Sig.{Sig}
+use Rattle.fm_cert.specs.Lines.{Clause, AreGoodLines, above, clause_true}
+use Rattle.fm_cert.specs.declared.block.Line.{Line}
+use Rattle.fm_cert.specs.declared.block.Block.{Block}
+use Rattle.fm_cert.specs.declared.block.Claim.{Claim}
+
+-- what is in force at a `check-sat`: a signature and assertions over it
+pub record Problem : Type 0 where
+  pub sig : Sig
+  pub assertions : List Formula
+
+-- a line's clause is the one literal "the sizes add up to more than n - 1"; below a sum of 0 there is nothing
+abbrev pub ShowsLeast : List Clause → ℕ → Type 0
+ShowsLeast clauses zero = Unit {0}
+ShowsLeast clauses (suc n) = (i : ℕ) × (slice_get clauses i ≡ Some (above n ∷ []))
+
+-- the ending is good after the clauses of the block's lines
+abbrev pub IsGoodEnding : Problem → List Clause → Claim → Type 0
+IsGoodEnding p clauses Claim.Unsat = (i : ℕ) × (slice_get clauses i ≡ Some [])
+IsGoodEnding p clauses (Claim.Sat sum model) = ShowsLeast clauses sum × (is_fit p.sig model ≡ true) × IsModel p.sig p.assertions (reading_of model) × (sum_of_sizes p.sig (reading_of model) ≡ sum)
+IsGoodEnding p clauses (Claim.Unknown instances decisions) = Unit {0}
+
+pub record IsGoodBlock (p : Problem) (block : Block) : Type 0 where
+  pub clauses : List Clause
+  pub lines : AreGoodLines p.sig [] block.lines clauses
+  pub ending : IsGoodEnding p clauses block.claim
+
+-- the claim of an ending: no model at all; a model of this sum, and none of a smaller; or nothing
+abbrev pub ClaimHolds : Problem → Claim → Type 0
+ClaimHolds p Claim.Unsat = (m : Reading) → IsModel p.sig p.assertions m → ⊥
+ClaimHolds p (Claim.Sat sum model) = IsModel p.sig p.assertions (reading_of model) × (sum_of_sizes p.sig (reading_of model) ≡ sum) × ((m : Reading) → IsModel p.sig p.assertions m → sum ≤ sum_of_sizes p.sig m)
+ClaimHolds p (Claim.Unknown instances decisions) = Unit {0}
+
+-- the blocks are numbered from k on, and each is good for the problem of its number
+abbrev pub AreGoodFrom : ℕ → List Problem → List Block → Type 0
+AreGoodFrom k ps [] = Unit {0}
+AreGoodFrom k [] (b ∷ bs) = ⊥
+AreGoodFrom k (p ∷ ps) (b ∷ bs) = (b.number ≡ k) × IsGoodBlock p b × AreGoodFrom (k + 1) ps bs
+
+-- a good certificate for the problems of a script's `check-sat` commands, in order
+abbrev pub IsGoodCertificate : List Problem → List Block → Type 0
+IsGoodCertificate problems blocks = AreGoodFrom 0 problems blocks
+
+-- a good block's claim holds
+abbrev pub BlocksAreSound : Type 0
+BlocksAreSound = (p : Problem) (block : Block) → IsGoodBlock p block → ClaimHolds p block.claim
+
+-- every clause of good lines holds in every interpretation of the signature, whatever the terms' values are
+abbrev pub GoodLinesHold : Type 0
+GoodLinesHold = (sig : Sig) (m : Reading) (value : ℕ → ℕ) (lines : List Line) (clauses : List Clause) (i : ℕ) (clause : Clause) → IsInterpretation sig m → AreGoodLines sig [] lines clauses → slice_get clauses i ≡ Some clause → clause_true sig m value clause ≡ true

@@ -1,0 +1,233 @@
+ghost use Rattle.std.specs.Prelude.{◌≡◌, ℕ, List, ◌++◌, codes, decimal, IfOk, OnOk};
+ghost use Rattle.std.specs.List.{flat_map};
+ghost use Rattle.fm_cert.specs.Spelling.{header, line_feed, spelling_of_number, spelling_of_numbers, spelling_of_sign, spelling_of_atom, spelling_of_step, spelling_of_line, spelling_of_exception, spelling_of_table, spelling_of_model, spelling_of_claim, spelling_of_block};
+
+use crate::block::{Block, CertLit, Claim, Line};
+use fm_bank::Atom;
+use fm_base::{Interp, Table};
+use itoa::Buffer;
+use sqlite_items::Items;
+use std::alloc::{AllocError, Global};
+
+/// The first line of every certificate.
+#[tactic(auto, unfolding(crate::specs::Spelling::header))]
+pub fn header_line() -> &'static [u8]
+    ensures { result.now ≡ header }
+{
+    b"fmfcert 1\n".as_slice()
+}
+
+/// The text of a block. The first number of each equality atom is to be no greater than the second, and each
+/// resolution is to have a step, so that the text can be read again.
+pub fn print(alloc: Global, block: &Block) -> Result<Vec<u8>, AllocError>
+    ensures { IfOk result (λ v. v.items ≡ spelling_of_block block.now) }
+{
+    let mut out = Vec::new(alloc);
+    out.extend_from_slice(b"b")?;
+    print_number(&mut out, block.number)?;
+    end_line(&mut out)?;
+    print_lines(&mut out, block.lines.as_slice())?;
+    print_claim(&mut out, &block.claim)?;
+    Ok(out)
+}
+
+fn end_line(out: &mut Vec<u8>) -> Result<(), AllocError>
+    ensures { OnOk result (out.new.items ≡ out.old.items ++ line_feed) }
+{
+    out.extend_from_slice(b"\n")
+}
+
+// The digits alone.
+fn print_digits(out: &mut Vec<u8>, number: u64) -> Result<(), AllocError>
+    ensures { OnOk result (out.new.items ≡ out.old.items ++ decimal number) }
+{
+    let mut buffer = Buffer::new();
+    out.extend_from_slice(buffer.format(number).as_bytes())
+}
+
+// A blank and the digits.
+fn print_number(out: &mut Vec<u8>, number: u64) -> Result<(), AllocError>
+    ensures { OnOk result (out.new.items ≡ out.old.items ++ spelling_of_number number) }
+{
+    out.extend_from_slice(b" ")?;
+    print_digits(out, number)
+}
+
+fn print_numbers(out: &mut Vec<u8>, numbers: &[u64]) -> Result<(), AllocError>
+    ensures { OnOk result (out.new.items ≡ out.old.items ++ spelling_of_numbers numbers.now) }
+{
+    for number in numbers {
+        print_number(out, *number)?;
+    }
+    Ok(())
+}
+
+// A place in a list, as a number of 64 bits.
+fn digits_of_place(out: &mut Vec<u8>, place: usize) -> Result<(), AllocError>
+    ensures { OnOk result (out.new.items ≡ out.old.items ++ decimal place) }
+{
+    print_digits(out, place as u64)
+}
+
+fn print_place(out: &mut Vec<u8>, place: usize) -> Result<(), AllocError>
+    ensures { OnOk result (out.new.items ≡ out.old.items ++ spelling_of_number place) }
+{
+    print_number(out, place as u64)
+}
+
+fn print_sign(out: &mut Vec<u8>, positive: bool) -> Result<(), AllocError>
+    ensures { OnOk result (out.new.items ≡ out.old.items ++ spelling_of_sign positive) }
+{
+    if positive {
+        out.extend_from_slice(b"+")
+    } else {
+        out.extend_from_slice(b"-")
+    }
+}
+
+fn print_atom(out: &mut Vec<u8>, atom: Atom) -> Result<(), AllocError>
+    ensures { OnOk result (out.new.items ≡ out.old.items ++ spelling_of_atom atom) }
+{
+    match atom {
+        Atom::Equal(left, right) => {
+            out.extend_from_slice(b"E")?;
+            digits_of_place(out, left.0)?;
+            out.extend_from_slice(b",")?;
+            digits_of_place(out, right.0)
+        }
+        Atom::Pred(term) => {
+            out.extend_from_slice(b"P")?;
+            digits_of_place(out, term.0)
+        }
+        Atom::Card(sort, k) => {
+            out.extend_from_slice(b"C")?;
+            digits_of_place(out, sort.0)?;
+            out.extend_from_slice(b",")?;
+            print_digits(out, k)
+        }
+        Atom::Bound(n) => {
+            out.extend_from_slice(b"B")?;
+            print_digits(out, n)
+        }
+    }
+}
+
+fn print_step(out: &mut Vec<u8>, lit: CertLit, clause: usize) -> Result<(), AllocError>
+    ensures { OnOk result (out.new.items ≡ out.old.items ++ spelling_of_step (lit, clause)) }
+{
+    out.extend_from_slice(b" ")?;
+    print_sign(out, lit.positive)?;
+    print_atom(out, lit.atom)?;
+    print_place(out, clause)
+}
+
+fn print_steps(out: &mut Vec<u8>, steps: &[(CertLit, usize)]) -> Result<(), AllocError>
+    ensures { OnOk result (out.new.items ≡ out.old.items ++ flat_map spelling_of_step steps.now) }
+{
+    for step in steps {
+        print_step(out, step.0, step.1)?;
+    }
+    Ok(())
+}
+
+fn print_line(out: &mut Vec<u8>, line: &Line) -> Result<(), AllocError>
+    ensures { OnOk result (out.new.items ≡ out.old.items ++ spelling_of_line line.now) }
+{
+    match line {
+        Line::Sum { n, ks } => {
+            out.extend_from_slice(b"s")?;
+            print_number(out, *n)?;
+            print_numbers(out, ks.as_slice())?;
+        }
+        Line::OrderZero { sort } => {
+            out.extend_from_slice(b"o z")?;
+            print_place(out, sort.0)?;
+        }
+        Line::Resolution { first, steps } => {
+            out.extend_from_slice(b"r")?;
+            print_place(out, *first)?;
+            print_steps(out, steps.as_slice())?;
+        }
+    }
+    end_line(out)
+}
+
+fn print_lines(out: &mut Vec<u8>, lines: &[Line]) -> Result<(), AllocError>
+    ensures { OnOk result (out.new.items ≡ out.old.items ++ flat_map spelling_of_line lines.now) }
+{
+    for line in lines {
+        print_line(out, line)?;
+    }
+    Ok(())
+}
+
+fn print_exception(out: &mut Vec<u8>, exception: &(Items<u64>, u64)) -> Result<(), AllocError>
+    ensures { OnOk result (out.new.items ≡ out.old.items ++ spelling_of_exception exception.now) }
+{
+    out.extend_from_slice(b"x")?;
+    print_numbers(out, exception.0.as_slice())?;
+    print_number(out, exception.1)?;
+    end_line(out)
+}
+
+fn print_exceptions(out: &mut Vec<u8>, except: &[(Items<u64>, u64)]) -> Result<(), AllocError>
+    ensures { OnOk result (out.new.items ≡ out.old.items ++ flat_map spelling_of_exception except.now) }
+{
+    for exception in except {
+        print_exception(out, exception)?;
+    }
+    Ok(())
+}
+
+fn print_table(out: &mut Vec<u8>, table: &Table) -> Result<(), AllocError>
+    ensures { OnOk result (out.new.items ≡ out.old.items ++ spelling_of_table table.now) }
+{
+    out.extend_from_slice(b"d")?;
+    print_number(out, table.default)?;
+    end_line(out)?;
+    print_exceptions(out, table.except.as_slice())
+}
+
+fn print_tables(out: &mut Vec<u8>, tables: &[Table]) -> Result<(), AllocError>
+    ensures { OnOk result (out.new.items ≡ out.old.items ++ flat_map spelling_of_table tables.now) }
+{
+    for table in tables {
+        print_table(out, table)?;
+    }
+    Ok(())
+}
+
+fn print_model(out: &mut Vec<u8>, model: &Interp) -> Result<(), AllocError>
+    ensures { OnOk result (out.new.items ≡ out.old.items ++ spelling_of_model model.now) }
+{
+    out.extend_from_slice(b"z")?;
+    print_numbers(out, model.sizes.as_slice())?;
+    end_line(out)?;
+    print_tables(out, model.tables.as_slice())
+}
+
+fn print_claim(out: &mut Vec<u8>, claim: &Claim) -> Result<(), AllocError>
+    ensures { OnOk result (out.new.items ≡ out.old.items ++ spelling_of_claim claim.now) }
+{
+    match claim {
+        Claim::Unsat => {
+            out.extend_from_slice(b"q unsat")?;
+            end_line(out)
+        }
+        Claim::Sat { sum, model } => {
+            out.extend_from_slice(b"q sat")?;
+            print_number(out, *sum)?;
+            end_line(out)?;
+            print_model(out, model)
+        }
+        Claim::Unknown {
+            instances,
+            decisions,
+        } => {
+            out.extend_from_slice(b"q unknown")?;
+            print_number(out, *instances)?;
+            print_number(out, *decisions)?;
+            end_line(out)
+        }
+    }
+}

@@ -1,0 +1,38 @@
+use Rattle.std.proofs.Common.{ap, ◌≡◌, ℕ, List, arith, subst, true, false}
+use Rattle.std.proofs.lemmas.Map.Text.{text_keys}
+use Rattle.std.specs.BTreeMap.{get_by_text}
+use Rattle.fm_files.specs.Memory.{is_nil}
+use Rattle.fm_files.specs.Entries.{free_at}
+use Rattle.fm_files.proofs.Looked.{OneChanged, leaves_write}
+use Rattle.fm_files.proofs.Steps.{roomy_append, adds_entry, quiet_write}
+use Rattle.fm_files.proofs.mem.MemFilesFiles.append.Goals as goal
+
+pub returns-in-Some-clause-adds : goal.returns-in-Some-clause-adds
+returns-in-Some-clause-adds c =
+    let h : OneChanged (get_by_text c.args.self.now.entries) (get_by_text (c.get_mut.follows.lender c.append.new.self)) c.args.name.now c.in-Some.entry.now c.append.new.self =
+    record { was = grind (arith, text_keys); is = grind (arith, text_keys); others = λ q ne. grind (arith, text_keys) } in
+    adds_entry c.args.self.now (c.get_mut.follows.lender c.append.new.self) c.args.name.now _ _ _ _ h c.append.ensures.sunk c.append.ensures.all
+
+pub returns-in-Some-clause-leaves : goal.returns-in-Some-clause-leaves
+returns-in-Some-clause-leaves c =
+    let h : OneChanged (get_by_text c.args.self.now.entries) (get_by_text (c.get_mut.follows.lender c.append.new.self)) c.args.name.now c.in-Some.entry.now c.append.new.self =
+    record { was = grind (arith, text_keys); is = grind (arith, text_keys); others = λ q ne. grind (arith, text_keys) } in
+    leaves_write c.args.self.now (c.get_mut.follows.lender c.append.new.self) c.args.name.now _ _ h c.append.ensures.source c.append.ensures.reads c.append.ensures.later
+
+pub returns-in-Some-clause-never : goal.returns-in-Some-clause-never
+returns-in-Some-clause-never c =
+    let h : OneChanged (get_by_text c.args.self.now.entries) (get_by_text (c.get_mut.follows.lender c.append.new.self)) c.args.name.now c.in-Some.entry.now c.append.new.self =
+    record { was = grind (arith, text_keys); is = grind (arith, text_keys); others = λ q ne. grind (arith, text_keys) } in
+    roomy_append c.args.self.now (c.get_mut.follows.lender c.append.new.self) c.args.name.now _ _ _ _ _ h (subst (λ (numbers : List ℕ). is_nil numbers ≡ true → c.is_listed-fails.result ≡ false) c.deref.ensures.value c.is_listed-fails.ensures.none) c.append.ensures.ok c.append.ensures.all c.append.ensures.room c.append.ensures.reads c.append.ensures.writes
+
+pub returns-in-Some-clause-quiet : goal.returns-in-Some-clause-quiet
+returns-in-Some-clause-quiet c =
+    let h : OneChanged (get_by_text c.args.self.now.entries) (get_by_text (c.get_mut.follows.lender c.append.new.self)) c.args.name.now c.in-Some.entry.now c.append.new.self =
+    record { was = grind (arith, text_keys); is = grind (arith, text_keys); others = λ q ne. grind (arith, text_keys) } in
+    quiet_write c.args.self.now (c.get_mut.follows.lender c.append.new.self) c.args.name.now _ _ _ h c.append.ensures.reads c.append.ensures.writes
+
+pub returns-in-Some-clause-free : goal.returns-in-Some-clause-free
+returns-in-Some-clause-free c =
+    let h : OneChanged (get_by_text c.args.self.now.entries) (get_by_text (c.get_mut.follows.lender c.append.new.self)) c.args.name.now c.in-Some.entry.now c.append.new.self =
+    record { was = grind (arith, text_keys); is = grind (arith, text_keys); others = λ q ne. grind (arith, text_keys) } in
+    λ q ne. ap free_at (h.others q ne)

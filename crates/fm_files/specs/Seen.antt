@@ -1,0 +1,87 @@
+-- What a state of files tells of each name, and what a call may change of it. A name is the list of its bytes.
+use Rattle.std.specs.Prelude.{◌≡◌, ◌≢◌, ℕ, ◌+◌, ◌-◌, ◌<◌, ◌≤◌, ◌^◌, ◌⊎◌, Bool, List, [], ◌++◌, take, Option, Some, None, Result, MatchResult, OnErr, ⊤}
+use Rattle.std.specs.Option.{option_map}
+use Rattle.std.specs.Io.KnownBytes.{Appends}
+
+-- left: the bytes left to read, where they are known; written: the bytes written, where they are known;
+-- read_faults and write_faults: two counts; is_sure: whether its reading is sure; room: its sure room
+pub record Seen : Type 0 where
+  pub left : List ℕ → Option (List ℕ)
+  pub written : List ℕ → Option (List ℕ)
+  pub read_faults : List ℕ → ℕ
+  pub write_faults : List ℕ → ℕ
+  pub is_sure : List ℕ → Bool
+  pub room : List ℕ → Option ℕ
+
+abbrev pub SameByName : {V : Type 0} → (List ℕ → V) → (List ℕ → V) → Type 0
+SameByName old new = (name : List ℕ) → new name ≡ old name
+
+abbrev pub SameButAt : {V : Type 0} → (List ℕ → V) → (List ℕ → V) → List ℕ → Type 0
+SameButAt old new at = (name : List ℕ) → name ≢ at → new name ≡ old name
+
+-- no count fell
+abbrev pub Later : (List ℕ → ℕ) → (List ℕ → ℕ) → Type 0
+Later old new = (name : List ℕ) → old name ≤ new name
+
+-- a count rose, or stands at its last value
+abbrev pub Rose : ℕ → ℕ → Type 0
+Rose old new = (old < new) ⊎ (2 ^ 64 ≤ new + 1)
+
+-- no count changed
+pub record NoFault (old new : Seen) : Type 0 where
+  pub reads : SameByName old.read_faults new.read_faults
+  pub writes : SameByName old.write_faults new.write_faults
+
+-- a call that reads the name and nothing else
+pub record OnlyReads (old new : Seen) (name : List ℕ) : Type 0 where
+  pub others : SameButAt old.left new.left name
+  pub written : SameByName old.written new.written
+  pub rooms : SameByName old.room new.room
+  pub sure : SameByName old.is_sure new.is_sure
+  pub reads_later : Later old.read_faults new.read_faults
+  pub writes_later : Later old.write_faults new.write_faults
+
+-- a call that writes and doesn't read
+pub record OnlyWrites (old new : Seen) : Type 0 where
+  pub left : SameByName old.left new.left
+  pub sure : SameByName old.is_sure new.is_sure
+  pub reads_later : Later old.read_faults new.read_faults
+  pub writes_later : Later old.write_faults new.write_faults
+
+-- a call that writes at most this one name
+pub record WritesAt (old new : Seen) (name : List ℕ) : Type 0 where
+  pub only : OnlyWrites old new
+  pub others : SameButAt old.written new.written name
+  pub other_rooms : SameButAt old.room new.room name
+
+-- known bytes are these
+abbrev pub Holds : Option (List ℕ) → Option (List ℕ) → List ℕ → Type 0
+Holds None new bs = ⊤
+Holds (Some xs) None bs = ⊥
+Holds (Some xs) (Some ys) bs = ys ≡ bs
+
+-- known bytes grow by a front of bs
+abbrev pub AppendsPart : Option (List ℕ) → Option (List ℕ) → List ℕ → Type 0
+AppendsPart old new bs = (front : List ℕ) × (back : List ℕ) × (bs ≡ front ++ back) × Appends old new front
+
+-- there is a sure room of at least n bytes
+abbrev pub HasRoom : Option ℕ → ℕ → Type 0
+HasRoom None n = ⊥
+HasRoom (Some r) n = n ≤ r
+
+-- what is left of a sure room after k bytes
+abbrev pub lowered : Option ℕ → ℕ → Option ℕ
+lowered room k = option_map (λ r. r - k) room
+
+-- what `begin` does to the bytes written: none stand after Ok; after a fault they are as before, or none stand
+abbrev pub Begins : {E : Type 0} → Option (List ℕ) → Option (List ℕ) → Result Unit E → Type 0
+Begins old new r = MatchResult r (λ _. Holds old new []) (λ _. (new ≡ old) ⊎ Holds old new [])
+
+-- what `append` does to the bytes written: a front of the piece of the answered length is added after Ok, some
+-- front after a fault
+abbrev pub Adds : {E : Type 0} → Option (List ℕ) → Option (List ℕ) → Result ℕ E → List ℕ → Type 0
+Adds old new r piece = MatchResult r (λ k. Appends old new (take k piece)) (λ _. AppendsPart old new piece)
+
+-- an answer of a fault has its cause: the count rose
+abbrev pub HasCause : {T E : Type 0} → ℕ → ℕ → Result T E → Type 0
+HasCause old new r = OnErr r (Rose old new)

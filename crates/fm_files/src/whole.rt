@@ -1,0 +1,81 @@
+ghost use Rattle.std.specs.Prelude.{◌≡◌, ◌≢◌, ℕ, ◌+◌, ◌≤◌, ◌<◌, ◌^◌, true, IfOk, OnOk, OnErr, IsOk, Err, List, length, vec_len};
+ghost use Rattle.std.specs.Io.KnownBytes.{Appends, Consumes, IsAtEnd};
+ghost use Rattle.fm_files.specs.Seen.{OnlyReads, WritesAt, NoFault, AppendsPart, HasCause, Rose, HasRoom, lowered};
+ghost use Rattle.fm_files.specs.declared.whole.ReadError.{ReadError};
+
+use crate::files::{Failed, Files};
+use std::alloc::{AllocError, Global};
+
+/// Why a file was not read whole.
+#[derive(Clone, Copy, Debug, PartialEq, Eq)]
+pub enum ReadError {
+    /// A read failed.
+    Fault,
+    /// More bytes than the limit.
+    TooLong,
+    /// Want of memory.
+    Memory,
+}
+
+impl From<AllocError> for ReadError {
+    ghost use Rattle.fm_files.specs.declared.whole.ReadError.TheVariants.{Memory};
+
+    ghost from_gives = { λ _ e. e ≡ Memory };
+
+    fn from(_error: AllocError) -> ReadError {
+        ReadError::Memory
+    }
+}
+
+/// Reads all that is left of the name, which may be `limit` bytes at most.
+///
+/// One byte past the limit is read before `TooLong` is answered, and no more.
+pub fn read_all<F: Files>(
+    alloc: Global,
+    files: &mut F,
+    name: &str,
+    limit: usize,
+) -> Result<Vec<u8>, ReadError>
+    requires { limit + 1 < 2 ^ 64 }
+    ensures all { IfOk result (λ v. Consumes ((F.seen files.old).left name.now) ((F.seen files.new).left name.now) v.items × IsAtEnd ((F.seen files.new).left name.now)) }
+    ensures fits { IfOk result (λ v. length v.items ≤ limit) }
+    ensures long { result ≡ Err ReadError.TooLong → (bytes : List ℕ) × (length bytes ≡ limit + 1) × Consumes ((F.seen files.old).left name.now) ((F.seen files.new).left name.now) bytes }
+    ensures fault { result ≡ Err ReadError.Fault → Rose ((F.seen files.old).read_faults name.now) ((F.seen files.new).read_faults name.now) }
+    ensures leaves { OnlyReads (F.seen files.old) (F.seen files.new) name.now }
+    ensures never { (F.seen files.old).is_sure name.now ≡ true → (result ≢ Err ReadError.Fault) × NoFault (F.seen files.old) (F.seen files.new) }
+{
+    let mut bytes = Vec::new(alloc);
+    let mut chunk = [0u8; 4096];
+    while bytes.len() <= limit {
+        let wanted = (limit + 1 - bytes.len()).min(4096);
+        let count = match files.read_next(name, &mut chunk[..wanted]) {
+            Ok(count) => count,
+            Err(_) => return Err(ReadError::Fault),
+        };
+        if count == 0 {
+            return Ok(bytes);
+        }
+        bytes.extend_from_slice(&chunk[..count])?;
+    }
+    Err(ReadError::TooLong)
+}
+
+/// Appends all the bytes to the name, in as many pieces as the name takes them. It takes no memory.
+pub fn write_all_of<F: Files>(files: &mut F, name: &str, bytes: &[u8]) -> Result<(), Failed>
+    ensures ok { OnOk result (Appends ((F.seen files.old).written name.now) ((F.seen files.new).written name.now) bytes.now) }
+    ensures part { OnErr result (AppendsPart ((F.seen files.old).written name.now) ((F.seen files.new).written name.now) bytes.now) }
+    ensures leaves { WritesAt (F.seen files.old) (F.seen files.new) name.now }
+    ensures cause { HasCause ((F.seen files.old).write_faults name.now) ((F.seen files.new).write_faults name.now) result }
+    ensures never { HasRoom ((F.seen files.old).room name.now) (length bytes.now) → ((F.seen files.new).room name.now ≡ lowered ((F.seen files.old).room name.now) (length bytes.now)) × IsOk result × NoFault (F.seen files.old) (F.seen files.new) }
+{
+    let mut rest = bytes;
+    while !rest.is_empty() {
+        let count = match files.append(name, rest) {
+            Ok(count) => count,
+            Err(error) => return Err(error),
+        };
+        let (_, after) = rest.split_at(count);
+        rest = after;
+    }
+    Ok(())
+}

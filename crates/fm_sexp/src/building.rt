@@ -1,0 +1,122 @@
+ghost use Rattle.std.specs.Prelude.{◌≡◌, ℕ, ◌+◌, ◌<◌, ◌≤◌, ◌^◌, List, [], ◌∷◌, ◌++◌, length, OnOk, IfOk, IfErr, Some};
+ghost use Rattle.fm_sexp.specs.Pieces.{depth_with};
+ghost use Rattle.fm_sexp.specs.Items.{Token, token_of};
+ghost use Rattle.fm_sexp.specs.Building.{IsStopped, so_far};
+
+use crate::items::Sexp;
+use crate::pieces::{Kind, Piece, Shape};
+use fm_base::{Place, Reason};
+use sqlite_items::Items;
+use std::alloc::{AllocError, Global};
+use std::mem;
+
+// The greatest number of open parentheses.
+const DEPTH_LIMIT: usize = 200;
+
+// The depth behind a piece, or why it can't follow.
+pub(crate) fn next_depth(depth: usize, shape: Shape) -> Result<usize, Reason>
+    requires { depth ≤ 200 }
+    ensures ok { IfOk result (λ d. depth_with depth shape ≡ Some d) }
+    ensures err { IfErr result (λ reason. IsStopped depth shape reason) }
+{
+    match shape {
+        Shape::Open => {
+            if depth < DEPTH_LIMIT {
+                Ok(depth + 1)
+            } else {
+                Err(Reason::TooDeep)
+            }
+        }
+        Shape::Close => {
+            if depth > 0 {
+                Ok(depth - 1)
+            } else {
+                Err(Reason::Unbalanced)
+            }
+        }
+        Shape::Blank | Shape::Comment | Shape::Word(_) => Ok(depth),
+    }
+}
+
+// What stands before a list that is open, in the list around it; and where that list began.
+#[derive(Drop)]
+pub(crate) struct Frame {
+    pub before: Items<Sexp>,
+    pub start: usize,
+    pub at: Place,
+}
+
+// The open lists, the innermost last, and the items read so far of the innermost.
+#[derive(Drop)]
+pub(crate) struct Builder {
+    pub frames: Vec<Frame>,
+    pub current: Items<Sexp>,
+}
+
+impl Builder {
+    pub(crate) fn depth(&self) -> usize
+        ensures { result ≡ length self.now.frames.items }
+    {
+        self.frames.len()
+    }
+
+    fn word(&mut self, kind: Kind, start: usize, end: usize, at: Place) -> Result<(), AllocError>
+        ensures so_far { OnOk result (so_far self.new ≡ so_far self.old ++ Token.Name kind start end at ∷ []) }
+        ensures frames { OnOk result (length self.new.frames.items ≡ length self.old.frames.items) }
+    {
+        self.current.push(Sexp::Word {
+            kind,
+            start,
+            end,
+            at,
+        })?;
+        Ok(())
+    }
+
+    fn open(&mut self, alloc: Global, start: usize, at: Place) -> Result<(), AllocError>
+        ensures so_far { OnOk result (so_far self.new ≡ so_far self.old ++ Token.Opened start at ∷ []) }
+        ensures frames { OnOk result (length self.new.frames.items ≡ 1 + length self.old.frames.items) }
+    {
+        let before = mem::replace(&mut self.current, Items::new(alloc));
+        self.frames.push(Frame { before, start, at })?;
+        Ok(())
+    }
+
+    fn close(&mut self, end: usize) -> Result<(), AllocError>
+        requires { 0 < length self.old.frames.items }
+        ensures so_far { OnOk result (so_far self.new ≡ so_far self.old ++ Token.Closed end ∷ []) }
+        ensures frames { OnOk result (1 + length self.new.frames.items ≡ length self.old.frames.items) }
+    {
+        if let Some(Frame { before, start, at }) = self.frames.pop() {
+            let items = mem::replace(&mut self.current, before);
+            self.current.push(Sexp::List {
+                items,
+                start,
+                end,
+                at,
+            })?;
+        }
+        Ok(())
+    }
+
+    // Takes in a piece that stands at a place.
+    pub(crate) fn add(
+        &mut self,
+        alloc: Global,
+        piece: Piece,
+        start: usize,
+        at: Place,
+    ) -> Result<(), AllocError>
+        requires lawful { (d : ℕ) × (depth_with (length self.old.frames.items) piece.shape ≡ Some d) }
+        requires fits { start + piece.len < 2 ^ 64 }
+        ensures so_far { OnOk result (so_far self.new ≡ so_far self.old ++ token_of at start piece.len piece.shape) }
+        ensures frames { OnOk result (depth_with (length self.old.frames.items) piece.shape ≡ Some (length self.new.frames.items)) }
+    {
+        match piece.shape {
+            Shape::Open => self.open(alloc, start, at),
+            Shape::Close => self.close(start + piece.len),
+            Shape::Word(kind) => self.word(kind, start, start + piece.len, at),
+            Shape::Blank | Shape::Comment => Ok(()),
+        }
+    }
+}

@@ -1,0 +1,117 @@
+-- What two writings leave, one after the other.
+use Rattle.std.proofs.Common.{◌≡◌, ◌≢◌, ℕ, ◌+◌, ◌-◌, ◌<◌, ◌≤◌, ◌^◌, ◌⊎◌, inl, inr, true, false, List, [], ◌∷◌, ◌++◌, length, Option, Some, None, ap, refl, sym, subst, ◌∙◌, arith, append_assoc, length-append}
+use Rattle.std.specs.Io.KnownBytes.{Appends}
+use Rattle.std.specs.Bool.{Decides}
+use Rattle.std.specs.Str.{bytes_eq}
+use Rattle.std.proofs.lemmas.Bool.{cases_Bool, both_ways}
+use Rattle.std.proofs.lemmas.List.{append-nil}
+use Rattle.std.proofs.lemmas.Slice.Eq.{bytes_eq-Decides}
+use Rattle.fm_files.specs.Seen.{Seen, SameByName, SameButAt, Later, Rose, NoFault, OnlyReads, OnlyWrites, WritesAt, Holds, AppendsPart, HasRoom, lowered}
+use Rattle.fm_cert.specs.Spelling.{header}
+use Rattle.fmf.specs.Filing.{Puts, PutsInBlock, PutsInReply, CountsRose, UsesRoom}
+use Rattle.fmf.specs.Outputs.{Written, Others, Filed, CutInBlock, CutInReply}
+use Rattle.fmf.specs.Words.{dash, cert}
+
+pub dash≢cert : dash ≢ cert
+dash≢cert = λ e. cc e
+
+pub cert≢dash : cert ≢ dash
+cert≢dash = λ e. cc e
+
+-- two names are equal, or not
+pub same_name : (a b : List ℕ) → (a ≡ b) ⊎ (a ≢ b)
+same_name a b =
+    elim (cases_Bool (bytes_eq a b)) [
+      | inl t ↦ inl ((bytes_eq-Decides a b).0 t)
+      | inr f ↦ inr (λ e. both_ways (bytes_eq a b) f ((bytes_eq-Decides a b).1 e))
+    ]
+
+pub same_everywhere : {V : Type 0} (old new : List ℕ → V) (at : List ℕ) → SameButAt old new at → new at ≡ old at → SameByName old new
+same_everywhere old new at others here = λ name. elim (same_name name at) [ inl e ↦ subst (λ (n : List ℕ). new n ≡ old n) (sym e) here | inr ne ↦ others name ne ]
+
+pub Appends-none : (old new : Option (List ℕ)) → new ≡ old → Appends old new []
+Appends-none None new e = tt
+Appends-none (Some xs) None e = cc
+Appends-none (Some xs) (Some ys) e = let same : ys ≡ xs = cc e in same ∙ sym (append-nil xs)
+
+pub Appends-then : (a b c : Option (List ℕ)) (xs ys : List ℕ) → Appends a b xs → Appends b c ys → Appends a c (xs ++ ys)
+Appends-then None b c xs ys p q = tt
+Appends-then (Some a) None c xs ys p q = absurd p
+Appends-then (Some a) (Some b) None xs ys p q = absurd q
+Appends-then (Some a) (Some b) (Some c) xs ys p q = q ∙ (ap (λ (zs : List ℕ). zs ++ ys) p ∙ append_assoc a xs ys)
+
+pub Holds-then : (a b c : Option (List ℕ)) (xs ys : List ℕ) → Holds a b xs → Appends b c ys → Holds a c (xs ++ ys)
+Holds-then None b c xs ys p q = tt
+Holds-then (Some a) None c xs ys p q = absurd p
+Holds-then (Some a) (Some b) None xs ys p q = absurd q
+Holds-then (Some a) (Some b) (Some c) xs ys p q = q ∙ ap (λ (zs : List ℕ). zs ++ ys) p
+
+pub Filed-then : (old mid new : Written) (blocks replies block reply : List ℕ) → Filed old mid blocks replies → Puts mid new block reply → Filed old new (blocks ++ block) (replies ++ reply)
+Filed-then old mid new blocks replies block reply f p = record {
+  file = Holds-then (old cert) (mid cert) (new cert) blocks block f.file p.file;
+  out = Appends-then (old dash) (mid dash) (new dash) replies reply f.out p.out;
+  others = λ name a b. p.others name a b ∙ f.others name a b;
+}
+
+pub Filed-in_block : (old mid new : Written) (blocks replies block : List ℕ) → Filed old mid blocks replies → PutsInBlock mid new block → CutInBlock old new blocks replies block
+Filed-in_block old mid new blocks replies block f p = record {
+  front = p.file.0;
+  back = p.file.1;
+  split = p.file.2;
+  file = Holds-then (old cert) (mid cert) (new cert) blocks p.file.0 f.file p.file.3;
+  out = subst (λ (o : Option (List ℕ)). Appends (old dash) o replies) (sym p.out) f.out;
+  others = λ name a b. p.others name a b ∙ f.others name a b;
+}
+
+pub Filed-in_reply : (old mid new : Written) (blocks replies block reply : List ℕ) → Filed old mid blocks replies → PutsInReply mid new block reply → CutInReply old new (blocks ++ block) replies reply
+Filed-in_reply old mid new blocks replies block reply f p = record {
+  front = p.out.0;
+  back = p.out.1;
+  split = p.out.2;
+  file = Holds-then (old cert) (mid cert) (new cert) blocks block f.file p.file;
+  out = Appends-then (old dash) (mid dash) (new dash) replies p.out.0 f.out p.out.3;
+  others = λ name a b. p.others name a b ∙ f.others name a b;
+}
+
+pub OnlyWrites-then : (a b c : Seen) → OnlyWrites a b → OnlyWrites b c → OnlyWrites a c
+OnlyWrites-then a b c p q = record {
+  left = λ name. q.left name ∙ p.left name;
+  sure = λ name. q.sure name ∙ p.sure name;
+  reads_later = λ name. let h = p.reads_later name in let k = q.reads_later name in omega arith;
+  writes_later = λ name. let h = p.writes_later name in let k = q.writes_later name in omega arith;
+}
+
+pub NoFault-then : (a b c : Seen) → NoFault a b → NoFault b c → NoFault a c
+NoFault-then a b c p q = record {
+  reads = λ name. q.reads name ∙ p.reads name;
+  writes = λ name. q.writes name ∙ p.writes name;
+}
+
+pub NoFault-none : (a : Seen) → NoFault a a
+NoFault-none a = record { reads = λ name. refl; writes = λ name. refl }
+
+pub Rose-after : (a b c : ℕ) → a ≤ b → Rose b c → Rose a c
+Rose-after a b c le rose = elim rose [ inl lt ↦ inl (omega arith) | inr end ↦ inr end ]
+
+pub Rose-before : (a b c : ℕ) → Rose a b → b ≤ c → Rose a c
+Rose-before a b c rose le = elim rose [ inl lt ↦ inl (omega arith) | inr end ↦ inr (omega arith) ]
+
+pub CountsRose-after : (a b c : Seen) → OnlyWrites a b → CountsRose b c → CountsRose a c
+CountsRose-after a b c p q = record {
+  rose = elim q.rose [
+    | inl h ↦ inl (Rose-after (a.write_faults cert) (b.write_faults cert) (c.write_faults cert) (p.writes_later cert) h)
+    | inr h ↦ inr (Rose-after (a.write_faults dash) (b.write_faults dash) (c.write_faults dash) (p.writes_later dash) h)
+  ];
+}
+
+pub HasRoom-less : (room : Option ℕ) (n m : ℕ) → m ≤ n → HasRoom room n → HasRoom room m
+HasRoom-less None n m le h = h
+HasRoom-less (Some r) n m le h = omega arith
+
+pub HasRoom-lowered : (room : Option ℕ) (n k : ℕ) → HasRoom room n → HasRoom (lowered room k) (n - k)
+HasRoom-lowered None n k h = h
+HasRoom-lowered (Some r) n k h = omega arith
+
+-- room for n bytes, of which none is used up
+pub HasRoom-same : (a b : Option ℕ) (n : ℕ) → b ≡ a → HasRoom a n → HasRoom b n
+HasRoom-same a b n e h = subst (λ (o : Option ℕ). HasRoom o n) (sym e) h

@@ -1,0 +1,34 @@
+-- The block that answers a `check-sat` of a thin script: each sort has one element and each constant the value 0,
+-- and the lines show that no sum lies below the number of the sorts.
+use Rattle.std.specs.Prelude.{ℕ, zero, suc, ◌+◌, List, [], ◌∷◌, ◌++◌, length, replicate}
+use Rattle.fm_base.specs.declared.interp.Interp.{Interp}
+use Rattle.fm_base.specs.declared.interp.Table.{Table}
+use Rattle.fm_cert.specs.Lines.{at_most}
+use Rattle.fm_cert.specs.declared.block.Block.{Block}
+use Rattle.fm_cert.specs.declared.block.CertLit.{CertLit}
+use Rattle.fm_cert.specs.declared.block.Claim.{Claim}
+use Rattle.fm_cert.specs.declared.block.Line
+use Rattle.fm_cert.specs.declared.block.Line.{Line}
+
+abbrev pub constant_zero : Table
+constant_zero = record { default = 0; except = [] }
+
+abbrev pub one_element_model : ℕ → ℕ → Interp
+one_element_model sorts consts = record { sizes = replicate sorts 1; tables = replicate consts constant_zero }
+
+-- a line `o z` for each of n sorts from s on
+unfoldable pub orders : ℕ → ℕ → List Line
+orders s zero = []
+orders s (suc n) = Line.OrderZero (record { 0 = s }) ∷ orders (s + 1) n
+
+-- a step for each of n sorts from s on: that it has at most 0 elements, with the clause of its line `o z`
+unfoldable pub zero_steps : ℕ → ℕ → List (CertLit × ℕ)
+zero_steps s zero = []
+zero_steps s (suc n) = (at_most s 0, s + 1) ∷ zero_steps (s + 1) n
+
+abbrev pub lines_of : ℕ → List Line
+lines_of zero = []
+lines_of (suc n) = Line.Sum n (replicate (suc n) 0) ∷ (orders 0 (suc n) ++ Line.Resolution 0 (zero_steps 0 (suc n)) ∷ [])
+
+abbrev pub block_of : ℕ → ℕ → ℕ → Block
+block_of number sorts consts = record { number = number; lines = lines_of sorts; claim = Claim.Sat sorts (one_element_model sorts consts) }

@@ -1,0 +1,93 @@
+ghost use Rattle.std.specs.Prelude.{◌≡◌, ℕ, ◌++◌, ◌+◌, ◌<◌, ◌^◌, IfOk, OnOk, replicate};
+ghost use Rattle.fmf.specs.Certified.{block_of, lines_of, one_element_model, constant_zero, orders, zero_steps};
+
+use fm_bank::Atom;
+use fm_base::{Interp, SortId, Table};
+use fm_cert::{Block, CertLit, Claim, Line};
+use sqlite_items::Items;
+use std::alloc::{AllocError, Global};
+
+/// The block that answers a `check-sat` where so many sorts and constants stand declared and all assertions are
+/// equations of constants.
+pub fn certify(alloc: Global, number: u64, sorts: usize, consts: usize) -> Result<Block, AllocError>
+    ensures { IfOk result (λ b. b ≡ block_of number sorts consts) }
+{
+    let lines = lines_for(alloc, sorts)?;
+    let model = one_element(alloc, sorts, consts)?;
+    let sum = sorts as u64;
+    Ok(Block {
+        number,
+        lines,
+        claim: Claim::Sat { sum, model },
+    })
+}
+
+fn lines_for(alloc: Global, sorts: usize) -> Result<Items<Line>, AllocError>
+    ensures { IfOk result (λ lines. lines ≡ lines_of sorts) }
+{
+    let mut lines = Vec::new(alloc);
+    if sorts == 0 {
+        return Ok(Items::from_vec(lines));
+    }
+    let n = sorts as u64 - 1;
+    let ks = zeros(alloc, sorts)?;
+    lines.push(Line::Sum { n, ks })?;
+    push_orders(&mut lines, sorts)?;
+    let steps = steps_for(alloc, sorts)?;
+    lines.push(Line::Resolution { first: 0, steps })?;
+    Ok(Items::from_vec(lines))
+}
+
+fn zeros(alloc: Global, count: usize) -> Result<Items<u64>, AllocError>
+    ensures { IfOk result (λ ks. ks ≡ replicate count 0) }
+{
+    Ok(Items::from_vec(vec![in alloc; 0; count]?))
+}
+
+fn ones(alloc: Global, count: usize) -> Result<Items<u64>, AllocError>
+    ensures { IfOk result (λ ks. ks ≡ replicate count 1) }
+{
+    Ok(Items::from_vec(vec![in alloc; 1; count]?))
+}
+
+fn push_orders(lines: &mut Vec<Line>, sorts: usize) -> Result<(), AllocError>
+    ensures { OnOk result (lines.new.items ≡ lines.old.items ++ orders 0 sorts) }
+{
+    for sort in 0..sorts {
+        lines.push(Line::OrderZero { sort: SortId(sort) })?;
+    }
+    Ok(())
+}
+
+fn steps_for(alloc: Global, sorts: usize) -> Result<Items<(CertLit, usize)>, AllocError>
+    ensures { IfOk result (λ steps. steps ≡ zero_steps 0 sorts) }
+{
+    let mut steps = Vec::new(alloc);
+    for sort in 0..sorts {
+        let lit = CertLit {
+            positive: true,
+            atom: Atom::Card(SortId(sort), 0),
+        };
+        steps.push((lit, sort + 1))?;
+    }
+    Ok(Items::from_vec(steps))
+}
+
+fn one_element(alloc: Global, sorts: usize, consts: usize) -> Result<Interp, AllocError>
+    ensures { IfOk result (λ i. i ≡ one_element_model sorts consts) }
+{
+    let sizes = ones(alloc, sorts)?;
+    let tables = tables_for(alloc, consts)?;
+    Ok(Interp { sizes, tables })
+}
+
+fn tables_for(alloc: Global, consts: usize) -> Result<Items<Table>, AllocError>
+    ensures { IfOk result (λ tables. tables ≡ replicate consts constant_zero) }
+{
+    let mut tables = Vec::new(alloc);
+    for _i in 0..consts {
+        let except = Items::new(alloc);
+        tables.push(Table { default: 0, except })?;
+    }
+    Ok(Items::from_vec(tables))
+}

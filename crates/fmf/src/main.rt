@@ -1,0 +1,46 @@
+//! `fmf`, a finite model finder for SMT-LIB scripts.
+//!
+//! `fmf solve SCRIPT` writes a reply for each `check-sat` to standard output, and the evidence for each to the file
+//! `fmf.cert`.
+#![tactic(auto)]
+
+mod answers;
+mod certify;
+mod replies;
+mod solve;
+mod status;
+#[cfg(test)]
+mod tests;
+mod words;
+
+use crate::solve::run;
+use crate::status::Status;
+use fm_files::RealFiles;
+use std::io::ErrorKind;
+use std::process::ExitCode;
+use std::rt::Env;
+use std::{env, io};
+
+fn main(rt: HostRuntime) -> ExitCode {
+    let status = match words_of(&rt) {
+        Ok(words) => {
+            let mut files = RealFiles::new(rt);
+            run(rt.alloc(), words.as_slice(), &mut files)
+        }
+        Err(error) if error.kind() == ErrorKind::OutOfMemory => Status::Memory,
+        Err(_) => Status::Usage,
+    };
+    if let Some(message) = status.message() {
+        let _ = eprintln!(rt; "{message}");
+    }
+    ExitCode::from(status.code())
+}
+
+// The words of the command line behind the program's name. Words that aren't UTF-8 are an error.
+fn words_of(rt: &(impl Env + AllocGlobal)) -> io::Result<Vec<String>> {
+    let mut words = Vec::new(rt.alloc());
+    for word in env::args(rt)?.skip(1) {
+        words.push(word)?;
+    }
+    Ok(words)
+}

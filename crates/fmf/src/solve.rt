@@ -1,0 +1,92 @@
+ghost use Rattle.std.specs.Prelude.{◌≡◌, ◌≢◌, ℕ, ◌⊎◌, ◌↔◌, List, None, Some, length, map, String, string_bytes, ◌≤◌};
+ghost use Rattle.fm_files.specs.Seen.{Seen, OnlyWrites, SameByName, SameButAt, NoFault, HasRoom, Rose};
+ghost use Rattle.fmf.specs.Answers.{refusal_reply};
+ghost use Rattle.fmf.specs.Filing.{CountsRose};
+ghost use Rattle.fmf.specs.Outputs.{Wrote, Refused, at_start, Ran, Unchanged, Certifies, IsEnough, IsSure, HasNoFault};
+ghost use Rattle.fmf.specs.Words.{dash, cert, script_of};
+
+use crate::answers::answer_all;
+use crate::replies::error_line;
+use crate::status::Status;
+use crate::words::{DASH, script_word};
+use fm_base::{Fail, Place, Reason, Refusal};
+use fm_files::{Files, ReadError, read_all, write_all_of};
+use fm_script::read_thin;
+use std::alloc::Global;
+
+/// The longest script, in bytes.
+pub const LONGEST_SCRIPT: usize = 16_777_216;
+
+/// Runs the command that the words give, which are the command line without the program's name.
+///
+/// The words are `solve SCRIPT`. The script is read whole, then answered: the replies go to `-` and the evidence to
+/// the file `fmf.cert`, which is made anew. A script that is too long or isn't a thin script is refused, and then
+/// `fmf.cert` isn't touched.
+pub fn run<F: Files>(alloc: Global, words: &[String], files: &mut F) -> Status
+    ensures usage { (result ≡ Status.Usage) ↔ (script_of (map (λ w. string_bytes w) words.now) ≡ None) }
+    ensures unused { result ≡ Status.Usage → Unchanged (F.seen files.old) (F.seen files.new) }
+    ensures ran { (script : List ℕ) → script_of (map (λ w. string_bytes w) words.now) ≡ Some script → Ran script (F.seen files.old) (F.seen files.new) result }
+
+    // Each answer `sat` carries a good block, a model of the assertions in force and the proof that it is least.
+    ensures sat_claim { (script : List ℕ) → script_of (map (λ w. string_bytes w) words.now) ≡ Some script → result ≡ Status.Done → Certifies script (F.seen files.old) (F.seen files.new) }
+
+    ensures left { (script : List ℕ) → script_of (map (λ w. string_bytes w) words.now) ≡ Some script → SameButAt (F.seen files.old).left (F.seen files.new).left script }
+    ensures read_fault { (script : List ℕ) → script_of (map (λ w. string_bytes w) words.now) ≡ Some script → result ≡ Status.ReadFault → Rose ((F.seen files.old).read_faults script) ((F.seen files.new).read_faults script) }
+    ensures write_fault { result ≡ Status.WriteFault → CountsRose (F.seen files.old) (F.seen files.new) }
+    ensures sure { (script : List ℕ) → script_of (map (λ w. string_bytes w) words.now) ≡ Some script → IsSure script (F.seen files.old) → HasNoFault (F.seen files.old) (F.seen files.new) result }
+{
+    match script_word(words) {
+        Some(script) => solve(alloc, script, files),
+        None => Status::Usage,
+    }
+}
+
+// Reads the script and answers it.
+fn solve<F: Files>(alloc: Global, script: &str, files: &mut F) -> Status
+    ensures used { result ≢ Status.Usage }
+    ensures ran { Ran script.now (F.seen files.old) (F.seen files.new) result }
+    ensures left { SameButAt (F.seen files.old).left (F.seen files.new).left script.now }
+    ensures read_fault { result ≡ Status.ReadFault → Rose ((F.seen files.old).read_faults script.now) ((F.seen files.new).read_faults script.now) }
+    ensures write_fault { result ≡ Status.WriteFault → CountsRose (F.seen files.old) (F.seen files.new) }
+    ensures sure { IsSure script.now (F.seen files.old) → HasNoFault (F.seen files.old) (F.seen files.new) result }
+{
+    match read_all(alloc, files, script, LONGEST_SCRIPT) {
+        Ok(text) => answer_text(alloc, text.as_slice(), files),
+        Err(ReadError::TooLong) => refuse(alloc, Reason::TooLong, files),
+        Err(ReadError::Fault) => Status::ReadFault,
+        Err(ReadError::Memory) => Status::Memory,
+    }
+}
+
+// Answers a whole text.
+fn answer_text<F: Files>(alloc: Global, text: &[u8], files: &mut F) -> Status
+    ensures used { (result ≢ Status.Usage) × (result ≢ Status.ReadFault) }
+    ensures wrote { Wrote text.now (F.seen files.old).written (F.seen files.new).written result }
+    ensures leaves { OnlyWrites (F.seen files.old) (F.seen files.new) }
+    ensures cause { result ≡ Status.WriteFault → CountsRose (F.seen files.old) (F.seen files.new) }
+    ensures never { (out file : ℕ) → IsEnough text.now out file → HasRoom ((F.seen files.old).room dash) out → HasRoom ((F.seen files.old).room cert) file → (result ≢ Status.WriteFault) × NoFault (F.seen files.old) (F.seen files.new) }
+{
+    match read_thin(alloc, text) {
+        Ok(commands) => answer_all(alloc, commands.as_slice(), files),
+        Err(Fail::Refused(refusal)) => refuse(alloc, refusal.reason, files),
+        Err(Fail::Memory) => Status::Memory,
+    }
+}
+
+// Writes the reply to a refusal of the whole text.
+fn refuse<F: Files>(alloc: Global, reason: Reason, files: &mut F) -> Status
+    ensures wrote { Refused (at_start reason) (F.seen files.old).written (F.seen files.new).written result }
+    ensures leaves { OnlyWrites (F.seen files.old) (F.seen files.new) }
+    ensures cause { result ≡ Status.WriteFault → CountsRose (F.seen files.old) (F.seen files.new) }
+    ensures never { (out : ℕ) → length (refusal_reply (at_start reason)) ≤ out → HasRoom ((F.seen files.old).room dash) out → (result ≢ Status.WriteFault) × NoFault (F.seen files.old) (F.seen files.new) }
+{
+    let at = Place { line: 1, column: 1 };
+    let reply = match error_line(alloc, Refusal { reason, at }) {
+        Ok(reply) => reply,
+        Err(_) => return Status::Memory,
+    };
+    match write_all_of(files, DASH, reply.as_slice()) {
+        Ok(()) => Status::Script,
+        Err(_) => Status::WriteFault,
+    }
+}

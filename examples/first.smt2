@@ -1,0 +1,5 @@
+(declare-sort U 0)
+(declare-const a U)
+(declare-const b U)
+(assert (= a b))
+(check-sat)

@@ -1,0 +1,8 @@
+(check-sat)
+(declare-sort Task 0)
+(declare-sort Slot 0)
+(declare-const fetch Task)
+(declare-const build Task)
+(declare-const first Slot)
+(assert (= fetch build))
+(check-sat)
