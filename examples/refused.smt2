@@ -1,1 +1,3 @@
-(push 1)
+(declare-sort U 0)
+(check-sat)
+(push 18446744073709551616)

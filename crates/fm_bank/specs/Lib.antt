@@ -1,1 +1,4 @@
+pub mod Clauses
 pub mod Ground
+pub mod Instances
+pub mod Terms

@@ -2,17 +2,20 @@
 use Rattle.std.specs.Prelude.{◌≡◌, ℕ, zero, suc, ◌+◌, ◌≤◌, true, List, [], ◌∷◌, slice_get, Some}
 use Rattle.fm_base.specs.Interpretations.{Reading, IsInterpretation, reading_of, is_fit}
 use Rattle.fm_base.specs.Models.{IsModel, sum_of_sizes}
-use Rattle.fm_base.specs.declared.formula.Formula.{Formula}
-use Rattle.fm_base.specs.declared.signature.Sig.{Sig}
-use Rattle.fm_cert.specs.Lines.{Clause, AreGoodLines, above, clause_true}
+use Rattle.fm_bank.specs.Clauses.{Satisfies}
+use Rattle.fm_cert.specs.Lines.{Clause, Problem, AreGoodLines, above, clause_true}
 use Rattle.fm_cert.specs.declared.block.Line.{Line}
 use Rattle.fm_cert.specs.declared.block.Block.{Block}
 use Rattle.fm_cert.specs.declared.block.Claim.{Claim}
 
--- what is in force at a `check-sat`: a signature and assertions over it
-pub record Problem : Type 0 where
-  pub sig : Sig
-  pub assertions : List Formula
+-- The clause table says what the assertions say: each model of them has an expansion to the table's symbols, with the same
+-- sizes, that satisfies every clause.
+abbrev pub Expansion : Problem → Reading → Type 0
+Expansion p m = (at : ℕ → List ℕ → ℕ) × IsInterpretation p.symbols (record { size = m.size; at = at }) × Satisfies (record { size = m.size; at = at }) p.clauses
+
+pub record HasTable (p : Problem) : Type 0 where
+  pub sorts : p.symbols.sorts ≡ p.sig.sorts
+  pub expands : (m : Reading) → IsModel p.sig p.assertions m → Expansion p m
 
 -- a line's clause is the one literal "the sizes add up to more than n - 1"; below a sum of 0 there is nothing
 abbrev pub ShowsLeast : List Clause → ℕ → Type 0
@@ -27,7 +30,7 @@ IsGoodEnding p clauses (Claim.Unknown instances decisions) = Unit {0}
 
 pub record IsGoodBlock (p : Problem) (block : Block) : Type 0 where
   pub clauses : List Clause
-  pub lines : AreGoodLines p.sig [] block.lines clauses
+  pub lines : AreGoodLines p [] [] block.lines clauses
   pub ending : IsGoodEnding p clauses block.claim
 
 -- the claim of an ending: no model at all; a model of this sum, and none of a smaller; or nothing
@@ -46,10 +49,11 @@ AreGoodFrom k (p ∷ ps) (b ∷ bs) = (b.number ≡ k) × IsGoodBlock p b × Are
 abbrev pub IsGoodCertificate : List Problem → List Block → Type 0
 IsGoodCertificate problems blocks = AreGoodFrom 0 problems blocks
 
--- a good block's claim holds
+-- a good block's claim holds, where the table says what the assertions say
 abbrev pub BlocksAreSound : Type 0
-BlocksAreSound = (p : Problem) (block : Block) → IsGoodBlock p block → ClaimHolds p block.claim
+BlocksAreSound = (p : Problem) (block : Block) → HasTable p → IsGoodBlock p block → ClaimHolds p block.claim
 
--- every clause of good lines holds in every interpretation of the signature, whatever the terms' values are
+-- every clause of good lines holds in every interpretation of the table's symbols that satisfies its clauses, whatever the
+-- terms' values are
 abbrev pub GoodLinesHold : Type 0
-GoodLinesHold = (sig : Sig) (m : Reading) (value : ℕ → ℕ) (lines : List Line) (clauses : List Clause) (i : ℕ) (clause : Clause) → IsInterpretation sig m → AreGoodLines sig [] lines clauses → slice_get clauses i ≡ Some clause → clause_true sig m value clause ≡ true
+GoodLinesHold = (p : Problem) (m : Reading) (value : ℕ → ℕ) (lines : List Line) (clauses : List Clause) (i : ℕ) (clause : Clause) → IsInterpretation p.symbols m → Satisfies m p.clauses → AreGoodLines p [] [] lines clauses → slice_get clauses i ≡ Some clause → clause_true p.symbols m value clause ≡ true

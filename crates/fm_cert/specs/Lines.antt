@@ -1,11 +1,15 @@
--- Good lines of a certificate: the clause that a line makes, given the clauses of the earlier lines of its
+-- Good lines of a certificate: the clause that a line makes, given the terms and the clauses of the earlier lines of its
 -- block. A clause is a set of literals, written as a list in which order and repeats mean nothing.
-use Rattle.std.specs.Prelude.{◌≡◌, ◌≢◌, ℕ, ◌+◌, ◌<◌, ◌⊎◌, Bool, true, false, ◌||◌, not, List, [], ◌∷◌, ◌++◌, length, slice_get, Some, ◌↔◌}
+use Rattle.std.specs.Prelude.{◌≡◌, ◌≢◌, ℕ, ◌+◌, ◌<◌, ◌⊎◌, Bool, true, false, not, List, [], ◌∷◌, ◌++◌, length, map, slice_get, Some, ◌↔◌}
 use Rattle.std.specs.List.{list_any}
 use Rattle.fm_base.specs.Interpretations.{Reading}
-use Rattle.fm_base.specs.declared.ids.SortId.{SortId}
+use Rattle.fm_base.specs.declared.formula.Formula.{Formula}
+use Rattle.fm_base.specs.declared.ids.TermId.{TermId}
 use Rattle.fm_base.specs.declared.signature.Sig.{Sig}
 use Rattle.fm_bank.specs.Ground.{lit_true}
+use Rattle.fm_bank.specs.Instances.{Literal, ground_literals, is_substitution}
+use Rattle.fm_bank.specs.Terms.{Term}
+use Rattle.fm_bank.specs.declared.clause.Clause.{Clause as FirstOrderClause}
 use Rattle.fm_bank.specs.declared.atom.Atom.{Atom}
 use Rattle.fm_cert.specs.declared.block.CertLit.{CertLit}
 use Rattle.fm_cert.specs.declared.block.Line.{Line}
@@ -58,16 +62,31 @@ abbrev pub total_above : List ℕ → ℕ
 total_above [] = 0
 total_above (k ∷ ks) = k + 1 + total_above ks
 
--- the line is good after the earlier clauses, and makes the clause
-abbrev pub IsGoodLine : Sig → List Clause → Line → Clause → Type 0
-IsGoodLine sig earlier (Line.Sum n ks) clause = (length ks ≡ sig.sorts) × (n < total_above ks) × (clause ≡ sum_clause 0 ks n)
-IsGoodLine sig earlier (Line.OrderZero s) clause = (s.0 < sig.sorts) × (clause ≡ more_than s.0 0 ∷ [])
-IsGoodLine sig earlier (Line.Resolution first steps) clause = (steps ≢ []) × ((start : Clause) × (slice_get earlier first ≡ Some start) × Chain earlier start steps clause)
+-- What is in force at a `check-sat`: a signature and assertions over it, and the clause table of the assertions, over the
+-- signature with the further symbols of the table.
+pub record Problem : Type 0 where
+  pub sig : Sig
+  pub assertions : List Formula
+  pub symbols : Sig
+  pub clauses : List FirstOrderClause
+
+abbrev pub numbers : List TermId → List ℕ
+numbers ts = map (λ (t : TermId). t.0) ts
+
+abbrev pub ground : Literal → CertLit
+ground l = record { positive = l.positive; atom = l.atom }
+
+-- the line is good after the earlier terms and clauses, and makes the clause
+abbrev pub IsGoodLine : Problem → List Term → List Clause → Line → Clause → Type 0
+IsGoodLine p terms earlier (Line.Instance c subst) clause = (input : FirstOrderClause) × (literals : List Literal) × (slice_get p.clauses c ≡ Some input) × (is_substitution p.symbols terms input.vars (numbers subst) ≡ true) × (ground_literals terms (numbers subst) input.lits ≡ Some literals) × (clause ≡ map ground literals)
+IsGoodLine p terms earlier (Line.Sum n ks) clause = (length ks ≡ p.symbols.sorts) × (n < total_above ks) × (clause ≡ sum_clause 0 ks n)
+IsGoodLine p terms earlier (Line.OrderZero s) clause = (s.0 < p.symbols.sorts) × (clause ≡ more_than s.0 0 ∷ [])
+IsGoodLine p terms earlier (Line.Resolution first steps) clause = (steps ≢ []) × ((start : Clause) × (slice_get earlier first ≡ Some start) × Chain earlier start steps clause)
 
 -- the lines are good one after the other, and these are the clauses in the end
-abbrev pub AreGoodLines : Sig → List Clause → List Line → List Clause → Type 0
-AreGoodLines sig earlier [] clauses = clauses ≡ earlier
-AreGoodLines sig earlier (line ∷ lines) clauses = (clause : Clause) × IsGoodLine sig earlier line clause × AreGoodLines sig (earlier ++ clause ∷ []) lines clauses
+abbrev pub AreGoodLines : Problem → List Term → List Clause → List Line → List Clause → Type 0
+AreGoodLines p terms earlier [] clauses = clauses ≡ earlier
+AreGoodLines p terms earlier (line ∷ lines) clauses = (clause : Clause) × IsGoodLine p terms earlier line clause × AreGoodLines p terms (earlier ++ clause ∷ []) lines clauses
 
 -- some literal of the clause is true
 abbrev pub clause_true : Sig → Reading → (ℕ → ℕ) → Clause → Bool

@@ -3,6 +3,7 @@ use Rattle.std.specs.Prelude.{ℕ, Bool, true, false, List, [], ◌∷◌, ◌++
 use Rattle.std.specs.List.{flat_map}
 use Rattle.fm_base.specs.declared.interp.Interp.{Interp}
 use Rattle.fm_base.specs.declared.interp.Table.{Table}
+use Rattle.fm_base.specs.declared.ids.TermId.{TermId}
 use Rattle.fm_bank.specs.declared.atom.Atom.{Atom}
 use Rattle.fm_cert.specs.declared.block.Block.{Block}
 use Rattle.fm_cert.specs.declared.block.CertLit.{CertLit}
@@ -34,7 +35,11 @@ spelling_of_atom (Atom.Bound n) = codes "B" ++ decimal n
 abbrev pub spelling_of_step : (CertLit × ℕ) → List ℕ
 spelling_of_step step = codes " " ++ spelling_of_sign step.0.positive ++ spelling_of_atom step.0.atom ++ spelling_of_number step.1
 
+abbrev pub spelling_of_term : TermId → List ℕ
+spelling_of_term t = spelling_of_number t.0
+
 abbrev pub spelling_of_line : Line → List ℕ
+spelling_of_line (Line.Instance clause terms) = codes "i" ++ spelling_of_number clause ++ flat_map spelling_of_term terms ++ line_feed
 spelling_of_line (Line.Sum n ks) = codes "s" ++ spelling_of_number n ++ spelling_of_numbers ks ++ line_feed
 spelling_of_line (Line.OrderZero s) = codes "o z" ++ spelling_of_number s.0 ++ line_feed
 spelling_of_line (Line.Resolution first steps) = codes "r" ++ spelling_of_number first ++ flat_map spelling_of_step steps ++ line_feed

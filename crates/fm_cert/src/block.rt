@@ -1,5 +1,5 @@
 use fm_bank::Atom;
-use fm_base::{Interp, SortId};
+use fm_base::{Interp, SortId, TermId};
 use sqlite_items::Items;
 
 /// A literal of a certificate's clause.
@@ -11,10 +11,15 @@ pub struct CertLit {
 
 /// A line of a block. Clauses are numbered from 0 within the block, in the order of the lines that make them.
 ///
-/// `Sum` has a number n and a number k for each sort, `OrderZero` says that a sort isn't empty, and
+/// `Instance` has the number of a clause of the assertions' clause table and a term for each of its variables. `Sum` has
+/// a number n and a number k for each sort, `OrderZero` says that a sort isn't empty, and
 /// `Resolution` resolves the clause `first` with the clause of each step on the literal beside it.
 #[derive(Drop)]
 pub enum Line {
+    Instance {
+        clause: usize,
+        terms: Items<TermId>,
+    },
     Sum {
         n: u64,
         ks: Items<u64>,

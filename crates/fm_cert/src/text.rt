@@ -1,10 +1,10 @@
 ghost use Rattle.std.specs.Prelude.{◌≡◌, ℕ, List, ◌++◌, codes, decimal, IfOk, OnOk};
 ghost use Rattle.std.specs.List.{flat_map};
-ghost use Rattle.fm_cert.specs.Spelling.{header, line_feed, spelling_of_number, spelling_of_numbers, spelling_of_sign, spelling_of_atom, spelling_of_step, spelling_of_line, spelling_of_exception, spelling_of_table, spelling_of_model, spelling_of_claim, spelling_of_block};
+ghost use Rattle.fm_cert.specs.Spelling.{header, line_feed, spelling_of_number, spelling_of_numbers, spelling_of_sign, spelling_of_atom, spelling_of_step, spelling_of_line, spelling_of_term, spelling_of_exception, spelling_of_table, spelling_of_model, spelling_of_claim, spelling_of_block};
 
 use crate::block::{Block, CertLit, Claim, Line};
 use fm_bank::Atom;
-use fm_base::{Interp, Table};
+use fm_base::{Interp, Table, TermId};
 use itoa::Buffer;
 use sqlite_items::Items;
 use std::alloc::{AllocError, Global};
@@ -75,6 +75,15 @@ fn print_place(out: &mut Vec<u8>, place: usize) -> Result<(), AllocError>
     print_number(out, place as u64)
 }
 
+fn print_terms(out: &mut Vec<u8>, terms: &[TermId]) -> Result<(), AllocError>
+    ensures { OnOk result (out.new.items ≡ out.old.items ++ flat_map spelling_of_term terms.now) }
+{
+    for term in terms {
+        print_place(out, term.0)?;
+    }
+    Ok(())
+}
+
 fn print_sign(out: &mut Vec<u8>, positive: bool) -> Result<(), AllocError>
     ensures { OnOk result (out.new.items ≡ out.old.items ++ spelling_of_sign positive) }
 {
@@ -134,6 +143,11 @@ fn print_line(out: &mut Vec<u8>, line: &Line) -> Result<(), AllocError>
     ensures { OnOk result (out.new.items ≡ out.old.items ++ spelling_of_line line.now) }
 {
     match line {
+        Line::Instance { clause, terms } => {
+            out.extend_from_slice(b"i")?;
+            print_place(out, *clause)?;
+            print_terms(out, terms.as_slice())?;
+        }
         Line::Sum { n, ks } => {
             out.extend_from_slice(b"s")?;
             print_number(out, *n)?;

@@ -1,3 +1,1 @@
-pub mod Commands
-pub mod Declarations
-pub mod Front
+pub mod Numbers

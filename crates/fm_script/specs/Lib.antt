@@ -1,3 +1,4 @@
-pub mod Places
-pub mod Plains
-pub mod Thin
+pub mod Commands
+pub mod Numerals
+pub mod Shown
+pub mod Within

@@ -1,10 +1,10 @@
-//! The reader of scripts.
+//! The shapes of commands.
 #![tactic(auto)]
 
-mod names;
-#[cfg(test)]
-mod tests;
-mod thin;
-mod tokens;
+mod command;
+mod read;
+mod words;
 
-pub use thin::{Thin, one_reading, read_thin};
+pub use command::{Command, Number, Part};
+pub use read::read_command;
+pub use words::{members, name, place};

@@ -1,15 +1,13 @@
 -- What two writings leave, one after the other.
-use Rattle.std.proofs.Common.{◌≡◌, ◌≢◌, ℕ, ◌+◌, ◌-◌, ◌<◌, ◌≤◌, ◌^◌, ◌⊎◌, inl, inr, true, false, List, [], ◌∷◌, ◌++◌, length, Option, Some, None, ap, refl, sym, subst, ◌∙◌, arith, append_assoc, length-append}
+use Rattle.std.proofs.Common.{◌≡◌, ◌≢◌, ℕ, ◌-◌, ◌≤◌, ◌⊎◌, inl, inr, List, [], ◌++◌, Option, Some, None, ap, refl, sym, subst, ◌∙◌, arith, append_assoc}
 use Rattle.std.specs.Io.KnownBytes.{Appends}
-use Rattle.std.specs.Bool.{Decides}
 use Rattle.std.specs.Str.{bytes_eq}
 use Rattle.std.proofs.lemmas.Bool.{cases_Bool, both_ways}
 use Rattle.std.proofs.lemmas.List.{append-nil}
 use Rattle.std.proofs.lemmas.Slice.Eq.{bytes_eq-Decides}
-use Rattle.fm_files.specs.Seen.{Seen, SameByName, SameButAt, Later, Rose, NoFault, OnlyReads, OnlyWrites, WritesAt, Holds, AppendsPart, HasRoom, lowered}
-use Rattle.fm_cert.specs.Spelling.{header}
-use Rattle.fmf.specs.Filing.{Puts, PutsInBlock, PutsInReply, CountsRose, UsesRoom}
-use Rattle.fmf.specs.Outputs.{Written, Others, Filed, CutInBlock, CutInReply}
+use Rattle.fm_files.specs.Seen.{Seen, SameByName, SameButAt, Rose, NoFault, OnlyWrites, Holds, HasRoom, lowered}
+use Rattle.fmf.specs.Filing.{Puts, PutsInBlock, PutsInReply, CountsRose}
+use Rattle.fmf.specs.Outputs.{Written, Filed, CutInBlock, CutInReply}
 use Rattle.fmf.specs.Words.{dash, cert}
 
 pub dash≢cert : dash ≢ cert

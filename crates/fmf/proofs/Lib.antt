@@ -1,7 +1,9 @@
 pub mod Certifying
+pub mod Declarations
 pub mod Filings
 pub mod Goodness
 pub mod Loops
 pub mod Opening
 pub mod Reaching
+pub mod Running
 pub mod Stepping

@@ -1,8 +1,7 @@
 -- One more line and one more step of a block.
-use Rattle.std.proofs.Common.{◌≡◌, ℕ, zero, suc, ◌+◌, List, [], ◌∷◌, ◌++◌, ap, refl, sym, subst, ◌∙◌, arith, add-one, add-zero, zero-add, append_assoc}
+use Rattle.std.proofs.Common.{◌≡◌, ℕ, zero, suc, ◌+◌, List, [], ◌∷◌, ◌++◌, ap, refl, sym, subst, ◌∙◌, arith, add-zero, zero-add, append_assoc}
 use Rattle.fm_cert.specs.Lines.{at_most}
 use Rattle.fm_cert.specs.declared.block.CertLit.{CertLit}
-use Rattle.fm_cert.specs.declared.block.Line
 use Rattle.fm_cert.specs.declared.block.Line.{Line}
 use Rattle.fmf.specs.Certified.{orders, zero_steps}
 

@@ -1,9 +1,9 @@
 -- A certificate's file that wasn't made, or not with its whole header; and an answer that was cut off.
-use Rattle.std.proofs.Common.{◌≡◌, List, [], ◌++◌, ℕ, ◌⊎◌, inl, inr, refl, Option, Some, None, sym, subst, ◌∙◌}
+use Rattle.std.proofs.Common.{◌≡◌, List, [], ℕ, ◌⊎◌, inl, inr, refl, Option, sym, subst, ◌∙◌}
 use Rattle.std.specs.Io.KnownBytes.{Appends}
-use Rattle.fm_files.specs.Seen.{SameByName, WritesAt, Seen, Holds, AppendsPart, Begins, OnlyWrites}
-use Rattle.fmf.specs.Filing.{PutsInBlock, PutsInReply, PutsPart}
-use Rattle.fmf.specs.Outputs.{Written, CutInBlock}
+use Rattle.fm_files.specs.Seen.{SameByName, WritesAt, Seen, Holds, AppendsPart}
+use Rattle.fmf.specs.Filing.{PutsPart}
+use Rattle.fmf.specs.Outputs.{CutInBlock}
 use Rattle.fmf.specs.Words.{dash, cert}
 use Rattle.fmf.proofs.Filings.{dash≢cert, cert≢dash, same_everywhere, Appends-none, Holds-then}
 

@@ -1,18 +1,18 @@
 -- The commands that are answered so far, and one more.
-use Rattle.std.proofs.Common.{◌≡◌, ℕ, ◌+◌, ◌-◌, ◌<◌, ◌≤◌, true, List, [], ◌∷◌, ◌++◌, length, take, drop, map, get_or, refl, sym, ap, subst, ◌∙◌, arith, append_assoc, length-append, ◌⊎◌, inl, inr}
-use Rattle.std.proofs.lemmas.List.{append-nil, map_more, take-append-drop, map-append, length-map, length-take-le}
-use Rattle.fm_files.specs.Seen.{Seen, SameByName, OnlyWrites, NoFault, HasRoom}
-use Rattle.fm_script.specs.declared.thin.Thin.{Thin}
-use Rattle.fm_script.specs.Thin.{Said, nothing, are_in_order}
+use Rattle.std.proofs.Common.{◌≡◌, ℕ, ◌+◌, ◌-◌, ◌≤◌, List, [], ◌∷◌, ◌++◌, length, refl, sym, ap, subst, ◌∙◌, arith, append_assoc, length-append, ◌⊎◌, inl, inr}
+use Rattle.std.proofs.lemmas.List.{append-nil}
+use Rattle.fm_files.specs.Seen.{Seen, OnlyWrites, NoFault, HasRoom}
+use Rattle.fmf.specs.Scopes.{Told, nothing}
+use Rattle.fmf.specs.Executed.{Run}
 use Rattle.fm_cert.specs.Spelling.{header}
 use Rattle.fmf.specs.Answers.{IsStep, Answers}
 use Rattle.fmf.specs.Filing.{Puts, PutsPart, UsesRoom}
-use Rattle.fmf.specs.Outputs.{Written, Filed, CutInBlock, CutInReply, Stopped, FitIn}
+use Rattle.fmf.specs.Outputs.{Filed, CutInBlock, CutInReply, Stopped, FitIn}
 use Rattle.fmf.specs.Words.{dash, cert}
 use Rattle.fmf.proofs.Filings.{Filed-then, Filed-in_block, Filed-in_reply, OnlyWrites-then, NoFault-then, HasRoom-less}
 
 -- the commands past were answered between the two states
-pub record Reached (past : List Said) (old new : Seen) : Type 0 where
+pub record Reached (past : List Told) (old new : Seen) : Type 0 where
   pub blocks : List ℕ
   pub replies : List ℕ
   pub answers : Answers [] past blocks replies
@@ -20,11 +20,11 @@ pub record Reached (past : List Said) (old new : Seen) : Type 0 where
   pub rooms : (out file : ℕ) → length replies ≤ out → length (header ++ blocks) ≤ file → HasRoom (old.room dash) out → HasRoom (old.room cert) file → HasRoom (new.room dash) (out - length replies) × HasRoom (new.room cert) (file - length (header ++ blocks)) × NoFault old new
   pub leaves : OnlyWrites old new
 
-pub Answers-push : (start past : List Said) (c : Said) (blocks replies block reply : List ℕ) → Answers start past blocks replies → IsStep (start ++ past) c block reply → Answers start (past ++ c ∷ []) (blocks ++ block) (replies ++ reply)
+pub Answers-push : (start past : List Told) (c : Told) (blocks replies block reply : List ℕ) → Answers start past blocks replies → IsStep (start ++ past) c block reply → Answers start (past ++ c ∷ []) (blocks ++ block) (replies ++ reply)
 Answers-push start [] c blocks replies block reply (none, nothing) step =
-    (block, [], reply, [], subst (λ (p : List Said). IsStep p c block reply) (append-nil start) step, ap (λ (bs : List ℕ). bs ++ block) none ∙ sym (append-nil block), ap (λ (rs : List ℕ). rs ++ reply) nothing ∙ sym (append-nil reply), (refl, refl))
+    (block, [], reply, [], subst (λ (p : List Told). IsStep p c block reply) (append-nil start) step, ap (λ (bs : List ℕ). bs ++ block) none ∙ sym (append-nil block), ap (λ (rs : List ℕ). rs ++ reply) nothing ∙ sym (append-nil reply), (refl, refl))
 Answers-push start (x ∷ past) c blocks replies block reply (b, bs, r, rs, first, eb, er, rest) step =
-    let here : IsStep ((start ++ x ∷ []) ++ past) c block reply = subst (λ (p : List Said). IsStep p c block reply) (sym (append_assoc start (x ∷ []) past)) step in
+    let here : IsStep ((start ++ x ∷ []) ++ past) c block reply = subst (λ (p : List Told). IsStep p c block reply) (sym (append_assoc start (x ∷ []) past)) step in
     (b, bs ++ block, r, rs ++ reply, first, ap (λ (ys : List ℕ). ys ++ block) eb ∙ append_assoc b bs block, ap (λ (ys : List ℕ). ys ++ reply) er ∙ append_assoc r rs reply, Answers-push (start ++ x ∷ []) past c bs rs block reply rest here)
 
 pub Reached-none : (old new : Seen) → Filed old.written new.written header [] → OnlyWrites old new → ((n : ℕ) → HasRoom (old.room cert) n → length header ≤ n → UsesRoom old new 0 (length header)) → Reached [] old new
@@ -41,7 +41,7 @@ Reached-none old new filed leaves never = record {
   leaves = leaves;
 }
 
-pub Reached-push : (past : List Said) (c : Said) (block reply : List ℕ) (old mid new : Seen) → Reached past old mid → IsStep past c block reply → Puts mid.written new.written block reply → OnlyWrites mid new → (HasRoom (mid.room dash) (length reply) → HasRoom (mid.room cert) (length block) → UsesRoom mid new (length reply) (length block)) → Reached (past ++ c ∷ []) old new
+pub Reached-push : (past : List Told) (c : Told) (block reply : List ℕ) (old mid new : Seen) → Reached past old mid → IsStep past c block reply → Puts mid.written new.written block reply → OnlyWrites mid new → (HasRoom (mid.room dash) (length reply) → HasRoom (mid.room cert) (length block) → UsesRoom mid new (length reply) (length block)) → Reached (past ++ c ∷ []) old new
 Reached-push past c block reply old mid new r step puts leaves never = record {
   blocks = r.blocks ++ block;
   replies = r.replies ++ reply;
@@ -58,50 +58,36 @@ Reached-push past c block reply old mid new r step puts leaves never = record {
   leaves = OnlyWrites-then old mid new r.leaves leaves;
 }
 
--- a list at an index
-pub split_here : {X : Type 0} (f : X → Said) (i : ℕ) (xs : List X) → map f xs ≡ map f (take i xs) ++ map f (drop i xs)
-split_here f i xs = ap (λ ys. map f ys) (sym (take-append-drop i xs)) ∙ map-append f (take i xs) (drop i xs)
+pub stopped_between : (run : Run) (past rest : List Told) (old new : Seen) → run.commands ≡ past ++ rest → Reached past old new → Stopped run old.written new.written
+stopped_between run past rest old new e r = inr (inr (inl (record { done = past; rest = rest; blocks = r.blocks; replies = r.replies; split = e; answers = r.answers; filed = r.filed })))
 
-pub split_after : {X : Type 0} (f : X → Said) (i : ℕ) (xs : List X) (d : X) → i < length xs → map f xs ≡ (map f (take i xs) ++ f (get_or xs i d) ∷ []) ++ map f (drop (i + 1) xs)
-split_after f i xs d lt = split_here f (i + 1) xs ∙ ap (λ (ys : List Said). ys ++ map f (drop (i + 1) xs)) (map_more f xs i d lt)
-
-pub stopped_between : (cs past rest : List Said) (old new : Seen) → cs ≡ past ++ rest → Reached past old new → Stopped cs old.written new.written
-stopped_between cs past rest old new e r = inr (inr (inl (record { done = past; rest = rest; blocks = r.blocks; replies = r.replies; split = e; answers = r.answers; filed = r.filed })))
-
-pub stopped_within : (cs past rest : List Said) (c : Said) (block reply : List ℕ) (old mid new : Seen) → cs ≡ (past ++ c ∷ []) ++ rest → Reached past old mid → IsStep past c block reply → PutsPart mid.written new.written block reply → Stopped cs old.written new.written
-stopped_within cs past rest c block reply old mid new e r step part =
+pub stopped_within : (run : Run) (past rest : List Told) (c : Told) (block reply : List ℕ) (old mid new : Seen) → run.commands ≡ (past ++ c ∷ []) ++ rest → Reached past old mid → IsStep past c block reply → PutsPart mid.written new.written block reply → Stopped run old.written new.written
+stopped_within run past rest c block reply old mid new e r step part =
     let cut : CutInBlock old.written new.written (header ++ r.blocks) r.replies block ⊎ CutInReply old.written new.written ((header ++ r.blocks) ++ block) r.replies reply = elim part [
       | inl p ↦ inl (Filed-in_block old.written mid.written new.written (header ++ r.blocks) r.replies block r.filed p)
       | inr p ↦ inr (Filed-in_reply old.written mid.written new.written (header ++ r.blocks) r.replies block reply r.filed p)
     ] in
-    inr (inr (inr (record { done = past; next = c; rest = rest; blocks = r.blocks; replies = r.replies; block = block; reply = reply; split = e; answers = r.answers; step = step; cut = cut })))
+    inr (inr (inr (inl (record { done = past; next = c; rest = rest; blocks = r.blocks; replies = r.replies; block = block; reply = reply; split = e; answers = r.answers; step = step; cut = cut }))))
 
 -- where there is room for all answers, no count rose so far
-pub no_fault_yet : (cs past rest : List Said) (old new : Seen) (out file : ℕ) → cs ≡ past ++ rest → Reached past old new → FitIn cs out file → HasRoom (old.room dash) out → HasRoom (old.room cert) file → NoFault old new
-no_fault_yet cs past rest old new out file e r fit room_out room_file =
-    let le = fit past rest r.blocks r.replies e r.answers in
+pub no_fault_yet : (run : Run) (past rest : List Told) (old new : Seen) (out file : ℕ) → run.commands ≡ past ++ rest → Reached past old new → FitIn run out file → HasRoom (old.room dash) out → HasRoom (old.room cert) file → NoFault old new
+no_fault_yet run past rest old new out file e r fit room_out room_file =
+    let le = fit.commands past rest r.blocks r.replies e r.answers in
     (r.rooms out file le.0 le.1 room_out room_file).2
 
 -- and there is room for the next
-pub room_for_next : (cs past rest : List Said) (c : Said) (block reply : List ℕ) (old mid : Seen) (out file : ℕ) → cs ≡ (past ++ c ∷ []) ++ rest → Reached past old mid → IsStep past c block reply → FitIn cs out file → HasRoom (old.room dash) out → HasRoom (old.room cert) file → HasRoom (mid.room dash) (length reply) × HasRoom (mid.room cert) (length block)
-room_for_next cs past rest c block reply old mid out file e r step fit room_out room_file =
-    let le = fit (past ++ c ∷ []) rest (r.blocks ++ block) (r.replies ++ reply) e (Answers-push [] past c r.blocks r.replies block reply r.answers step) in
+pub room_for_next : (run : Run) (past rest : List Told) (c : Told) (block reply : List ℕ) (old mid : Seen) (out file : ℕ) → run.commands ≡ (past ++ c ∷ []) ++ rest → Reached past old mid → IsStep past c block reply → FitIn run out file → HasRoom (old.room dash) out → HasRoom (old.room cert) file → HasRoom (mid.room dash) (length reply) × HasRoom (mid.room cert) (length block)
+room_for_next run past rest c block reply old mid out file e r step fit room_out room_file =
+    let le = fit.commands (past ++ c ∷ []) rest (r.blocks ++ block) (r.replies ++ reply) e (Answers-push [] past c r.blocks r.replies block reply r.answers step) in
     let lr : length (r.replies ++ reply) ≡ length r.replies + length reply = length-append r.replies reply in
     let lb : length (header ++ (r.blocks ++ block)) ≡ length (header ++ r.blocks) + length block = ap length (sym (append_assoc header r.blocks block)) ∙ length-append (header ++ r.blocks) block in
     let before = r.rooms out file (omega (arith, le.0)) (omega (arith, le.1)) room_out room_file in
     (HasRoom-less (mid.room dash) (out - length r.replies) (length reply) (omega (arith, le.0)) before.0, HasRoom-less (mid.room cert) (file - length (header ++ r.blocks)) (length block) (omega (arith, le.1)) before.1)
 
-pub room_to_open : (cs : List Said) (out file : ℕ) → FitIn cs out file → length header ≤ file
-room_to_open cs out file fit =
-    let le = fit [] cs [] [] refl (refl, refl) in
+pub room_to_open : (run : Run) (out file : ℕ) → FitIn run out file → length header ≤ file
+room_to_open run out file fit =
+    let le = fit.commands [] run.commands [] [] refl (refl, refl) in
     subst (λ (bs : List ℕ). length bs ≤ file) (append-nil header) le.1
 
--- what an index past the end would read
-abbrev pub first : Thin
-first = Thin.Sort (record { ref_ptr = (0, 0); now = [] })
-
-pub step_now : (past : List Said) (c : Said) (b r b' r' : List ℕ) → b' ≡ b → r' ≡ r → IsStep past c b r → IsStep past c b' r'
+pub step_now : (past : List Told) (c : Told) (b r b' r' : List ℕ) → b' ≡ b → r' ≡ r → IsStep past c b r → IsStep past c b' r'
 step_now past c b r b' r' eb er step = subst (λ (x : List ℕ). IsStep past c x r') (sym eb) (subst (λ (x : List ℕ). IsStep past c b x) (sym er) step)
-
-pub length_past : {X : Type 0} (f : X → Said) (i : ℕ) (xs : List X) → i < length xs → length (map f (take i xs)) ≡ i
-length_past f i xs lt = length-map (take i xs) f ∙ length-take-le i xs (omega arith)

@@ -1,13 +1,13 @@
--- The block that answers a `check-sat` of a thin script: each sort has one element and each constant the value 0,
--- and the lines show that no sum lies below the number of the sorts.
-use Rattle.std.specs.Prelude.{ℕ, zero, suc, ◌+◌, List, [], ◌∷◌, ◌++◌, length, replicate}
+-- The block that answers a `check-sat`. Without an assertion of `false` each sort has one element and each constant the value 0,
+-- and the lines show that no sum lies below the number of
+-- the sorts. Else the clause without literals refutes the assertions.
+use Rattle.std.specs.Prelude.{ℕ, zero, suc, ◌+◌, List, [], ◌∷◌, ◌++◌, replicate, Option, Some, None}
 use Rattle.fm_base.specs.declared.interp.Interp.{Interp}
 use Rattle.fm_base.specs.declared.interp.Table.{Table}
 use Rattle.fm_cert.specs.Lines.{at_most}
 use Rattle.fm_cert.specs.declared.block.Block.{Block}
 use Rattle.fm_cert.specs.declared.block.CertLit.{CertLit}
 use Rattle.fm_cert.specs.declared.block.Claim.{Claim}
-use Rattle.fm_cert.specs.declared.block.Line
 use Rattle.fm_cert.specs.declared.block.Line.{Line}
 
 abbrev pub constant_zero : Table
@@ -32,3 +32,12 @@ lines_of (suc n) = Line.Sum n (replicate (suc n) 0) ∷ (orders 0 (suc n) ++ Lin
 
 abbrev pub block_of : ℕ → ℕ → ℕ → Block
 block_of number sorts consts = record { number = number; lines = lines_of sorts; claim = Claim.Sat sorts (one_element_model sorts consts) }
+
+-- the block where the clause of this number has no literals
+abbrev pub refuting_block : ℕ → ℕ → Block
+refuting_block number clause = record { number = number; lines = Line.Instance clause [] ∷ []; claim = Claim.Unsat }
+
+-- the block after so many answers, by what stands declared and by the clause without literals, if there is one
+abbrev pub answering_block : ℕ → ℕ → ℕ → Option ℕ → Block
+answering_block number sorts consts None = block_of number sorts consts
+answering_block number sorts consts (Some clause) = refuting_block number clause

@@ -1,11 +1,11 @@
 -- What one call of the command's phases writes.
-use Rattle.std.specs.Prelude.{◌≡◌, ℕ, ◌-◌, ◌≤◌, ◌⊎◌, List, length}
+use Rattle.std.specs.Prelude.{◌≡◌, ℕ, ◌-◌, ◌⊎◌, List, length}
 use Rattle.std.specs.Io.KnownBytes.{Appends}
 use Rattle.fm_files.specs.Seen.{Seen, AppendsPart, NoFault, HasRoom, Rose}
-use Rattle.fm_script.specs.Thin.{Said, nothing}
-use Rattle.fmf.specs.Answers.{count_checks}
+use Rattle.fmf.specs.Answers.{count_checks, count_clauses, falsity_in}
 use Rattle.fmf.specs.InForce.{declared_by}
 use Rattle.fmf.specs.Outputs.{Written, Others}
+use Rattle.fmf.specs.Scopes.{Told, nothing}
 use Rattle.fmf.specs.Words.{dash, cert}
 use Rattle.fmf.specs.declared.answers.Standing.{Standing}
 
@@ -41,7 +41,9 @@ pub record UsesRoom (old new : Seen) (reply block : ℕ) : Type 0 where
   pub counts : NoFault old new
 
 -- the numbers of what stands declared, and of the answers so far
-pub record Stands (past : List Said) (standing : Standing) : Type 0 where
+pub record Stands (past : List Told) (standing : Standing) : Type 0 where
   pub sorts : standing.sorts ≡ length (declared_by nothing past).sorts
   pub consts : standing.consts ≡ length (declared_by nothing past).consts
   pub checks : standing.checks ≡ count_checks past
+  pub clauses : standing.clauses ≡ count_clauses past
+  pub falsity : standing.falsity ≡ falsity_in past

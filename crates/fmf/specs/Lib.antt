@@ -1,7 +1,10 @@
 pub mod Answers
 pub mod Certified
+pub mod Executed
 pub mod Filing
 pub mod InForce
 pub mod Outputs
+pub mod Scopes
 pub mod Statuses
+pub mod Tables
 pub mod Words

@@ -1,15 +1,17 @@
 -- What a run of `solve` leaves behind, by its status.
-use Rattle.std.specs.Prelude.{◌≡◌, ◌≢◌, ℕ, ◌+◌, ◌<◌, ◌≤◌, ◌⊎◌, List, [], ◌∷◌, ◌++◌, length, map, Option, Some, None, true}
-use Rattle.std.specs.List.{flat_map}
+use Rattle.std.specs.Prelude.{◌≡◌, ◌≢◌, ℕ, ◌+◌, ◌<◌, ◌≤◌, ◌⊎◌, List, [], ◌∷◌, ◌++◌, length, Option, Some, None, true}
 use Rattle.std.specs.Io.KnownBytes.{Consumes, Appends, IsAtEnd}
 use Rattle.fm_base.specs.declared.refusal.Reason.{Reason}
 use Rattle.fm_base.specs.declared.refusal.Refusal.{Refusal}
-use Rattle.fm_files.specs.Seen.{Seen, SameByName, Holds, AppendsPart, NoFault, Rose, HasRoom}
-use Rattle.fm_script.specs.Thin.{Said, IsThin}
+use Rattle.fm_files.specs.Seen.{Seen, SameByName, Holds, AppendsPart, NoFault, HasRoom}
+use Rattle.fm_sexp.specs.Items.{ReadsAs, IsRefused}
+use Rattle.fm_sexp.specs.declared.items.Sexp.{Sexp}
+use Rattle.fmf.specs.Executed.{Run, executed_from}
+use Rattle.fmf.specs.Scopes.{Told, nothing}
 use Rattle.fm_cert.specs.Claims.{IsGoodCertificate}
 use Rattle.fm_cert.specs.Spelling.{header, spelling_of_certificate}
 use Rattle.fm_cert.specs.declared.block.Block.{Block}
-use Rattle.fmf.specs.Answers.{Answers, AreAnswered, IsStep, refusal_reply, reply_of}
+use Rattle.fmf.specs.Answers.{Answers, AreAnswered, IsStep, refusal_reply}
 use Rattle.fmf.specs.InForce.{problems_of}
 use Rattle.fmf.specs.Words.{dash, cert}
 use Rattle.fmf.specs.declared.status.Status.{Status}
@@ -54,9 +56,9 @@ pub record CutInReply (old new : Written) (blocks replies reply : List ℕ) : Ty
   pub others : Others old new
 
 -- the first commands were answered, and nothing of the next
-pub record StoppedBetween (cs : List Said) (old new : Written) : Type 0 where
-  pub done : List Said
-  pub rest : List Said
+pub record StoppedBetween (cs : List Told) (old new : Written) : Type 0 where
+  pub done : List Told
+  pub rest : List Told
   pub blocks : List ℕ
   pub replies : List ℕ
   pub split : cs ≡ done ++ rest
@@ -64,10 +66,10 @@ pub record StoppedBetween (cs : List Said) (old new : Written) : Type 0 where
   pub filed : Filed old new (header ++ blocks) replies
 
 -- the first commands were answered, and the answer to the next was cut off
-pub record StoppedWithin (cs : List Said) (old new : Written) : Type 0 where
-  pub done : List Said
-  pub next : Said
-  pub rest : List Said
+pub record StoppedWithin (cs : List Told) (old new : Written) : Type 0 where
+  pub done : List Told
+  pub next : Told
+  pub rest : List Told
   pub blocks : List ℕ
   pub replies : List ℕ
   pub block : List ℕ
@@ -77,19 +79,45 @@ pub record StoppedWithin (cs : List Said) (old new : Written) : Type 0 where
   pub step : IsStep done next block reply
   pub cut : CutInBlock old new (header ++ blocks) replies block ⊎ CutInReply old new ((header ++ blocks) ++ block) replies reply
 
--- the run stopped on the way: before anything was written, within the header, between two commands, or within the
--- answer to one, whose block comes before its reply
-abbrev pub Stopped : List Said → Written → Written → Type 0
-Stopped cs old new = SameByName old new ⊎ (CutInBlock old new [] [] header ⊎ (StoppedBetween cs old new ⊎ StoppedWithin cs old new))
+-- the commands were answered, and the reply to the refusal behind them was cut off
+pub record StoppedInRefusal (run : Run) (old new : Written) : Type 0 where
+  pub refusal : Refusal
+  pub stands : run.refusal ≡ Some refusal
+  pub blocks : List ℕ
+  pub replies : List ℕ
+  pub answers : Answers [] run.commands blocks replies
+  pub cut : CutInReply old new (header ++ blocks) replies (refusal_reply refusal)
 
--- the commands were answered
-abbrev pub Answered : List Said → Written → Written → Status → Type 0
-Answered cs old new Status.Done = (blocks : List ℕ) × (replies : List ℕ) × Answers [] cs blocks replies × Filed old new (header ++ blocks) replies
-Answered cs old new Status.Usage = ⊥
-Answered cs old new Status.Script = ⊥
-Answered cs old new Status.ReadFault = ⊥
-Answered cs old new Status.WriteFault = Stopped cs old new
-Answered cs old new Status.Memory = Stopped cs old new
+-- the run stopped on the way: before anything was written, within the header, between two commands, within the answer to
+-- one, whose block comes before its reply, or within the reply to a refusal
+abbrev pub Stopped : Run → Written → Written → Type 0
+Stopped run old new = SameByName old new ⊎ (CutInBlock old new [] [] header ⊎ (StoppedBetween run.commands old new ⊎ (StoppedWithin run.commands old new ⊎ StoppedInRefusal run old new)))
+
+-- the executed commands were answered, and nothing refused
+pub record AnsweredAll (run : Run) (old new : Written) : Type 0 where
+  pub blocks : List ℕ
+  pub replies : List ℕ
+  pub whole : run.refusal ≡ None
+  pub answers : Answers [] run.commands blocks replies
+  pub filed : Filed old new (header ++ blocks) replies
+
+-- the executed commands were answered, and the refusal behind them too
+pub record AnsweredRefusal (run : Run) (old new : Written) : Type 0 where
+  pub refusal : Refusal
+  pub stands : run.refusal ≡ Some refusal
+  pub blocks : List ℕ
+  pub replies : List ℕ
+  pub answers : Answers [] run.commands blocks replies
+  pub filed : Filed old new (header ++ blocks) (replies ++ refusal_reply refusal)
+
+-- the commands of a text were run
+abbrev pub Answered : Run → Written → Written → Status → Type 0
+Answered run old new Status.Done = AnsweredAll run old new
+Answered run old new Status.Usage = ⊥
+Answered run old new Status.Script = AnsweredRefusal run old new
+Answered run old new Status.ReadFault = ⊥
+Answered run old new Status.WriteFault = Stopped run old new
+Answered run old new Status.Memory = Stopped run old new
 
 -- the output grew by this text, and nothing else was written
 pub record Replies (old new : Written) (reply : List ℕ) : Type 0 where
@@ -110,10 +138,10 @@ Refused refusal old new Status.ReadFault = ⊥
 Refused refusal old new Status.WriteFault = RepliesPart old new (refusal_reply refusal)
 Refused refusal old new Status.Memory = SameByName old new
 
--- what is written for a whole text: its answers where it is a thin script of these commands, else a refusal; or
+-- what is written for a whole text: where it reads as items, the answers to its executed commands; else its refusal; or
 -- memory was wanted before anything
 abbrev pub Wrote : List ℕ → Written → Written → Status → Type 0
-Wrote text old new status = ((cs : List Said) × IsThin text cs × Answered cs old new status) ⊎ ((((cs : List Said) → IsThin text cs → ⊥) × Refused (at_start Reason.NotYet) old new status) ⊎ ((status ≡ Status.Memory) × SameByName old new))
+Wrote text old new status = ((items : List Sexp) × ReadsAs text items × Answered (executed_from text nothing items) old new status) ⊎ (((refusal : Refusal) × IsRefused text refusal × Refused refusal old new status) ⊎ ((status ≡ Status.Memory) × SameByName old new))
 
 -- the script was read to its end and answered
 pub record ReadWhole (script : List ℕ) (old new : Seen) (status : Status) : Type 0 where
@@ -143,28 +171,28 @@ Ran script old new status = ReadWhole script old new status ⊎ (ReadTooMuch scr
 abbrev pub Unchanged : Seen → Seen → Type 0
 Unchanged old new = SameByName old.left new.left × SameByName old.written new.written × NoFault old new
 
--- A run that is Done read a thin script, and the certificate's file is the text of one block for each `check-sat`:
--- the blocks are a good certificate, each claim holds of what is in force at its `check-sat`, and the output grew by
--- the words of the claims.
+-- A run that is Done or ended with a refusal of a command read a text of items, and the certificate's file is the text of
+-- one block for each executed `check-sat`: the blocks are a good certificate, each claim holds of what is in force at its
+-- `check-sat`.
 pub record Certifies (script : List ℕ) (old new : Seen) : Type 0 where
   pub text : List ℕ
-  pub commands : List Said
+  pub items : List Sexp
   pub blocks : List Block
   pub read : Consumes (old.left script) (new.left script) text
-  pub thin : IsThin text commands
+  pub reads : ReadsAs text items
   pub file : Holds (old.written cert) (new.written cert) (spelling_of_certificate blocks)
-  pub answers : AreAnswered 0 (problems_of commands) blocks
-  pub certificate : IsGoodCertificate (problems_of commands) blocks
-  pub replies : Appends (old.written dash) (new.written dash) (flat_map (λ (b : Block). reply_of b.claim) blocks)
+  pub answers : AreAnswered 0 (problems_of (executed_from text nothing items).commands) blocks
+  pub certificate : IsGoodCertificate (problems_of (executed_from text nothing items).commands) blocks
 
--- room for the answers to the first commands, however many
-abbrev pub FitIn : List Said → ℕ → ℕ → Type 0
-FitIn cs out file = (done : List Said) (rest : List Said) (blocks : List ℕ) (replies : List ℕ) → cs ≡ done ++ rest → Answers [] done blocks replies → (length replies ≤ out) × (length (header ++ blocks) ≤ file)
+-- room for the answers to the first commands, however many, and for the reply to a refusal behind all
+pub record FitIn (run : Run) (out file : ℕ) : Type 0 where
+  pub commands : (done : List Told) (rest : List Told) (blocks : List ℕ) (replies : List ℕ) → run.commands ≡ done ++ rest → Answers [] done blocks replies → (length replies ≤ out) × (length (header ++ blocks) ≤ file)
+  pub refused : (refusal : Refusal) (blocks : List ℕ) (replies : List ℕ) → run.refusal ≡ Some refusal → Answers [] run.commands blocks replies → length (replies ++ refusal_reply refusal) ≤ out
 
 -- room of `out` bytes for replies and of `file` bytes for the certificate is enough for what the text is answered
 pub record IsEnough (text : List ℕ) (out file : ℕ) : Type 0 where
-  pub answers : (cs : List Said) → IsThin text cs → FitIn cs out file
-  pub refused : ((cs : List Said) → IsThin text cs → ⊥) → length (refusal_reply (at_start Reason.NotYet)) ≤ out
+  pub answers : (items : List Sexp) → ReadsAs text items → FitIn (executed_from text nothing items) out file
+  pub refused : (refusal : Refusal) → IsRefused text refusal → length (refusal_reply refusal) ≤ out
   pub too_long : longest < length text → length (refusal_reply (at_start Reason.TooLong)) ≤ out
 
 -- the premise of completeness: the script is known and its reading sure, and there is sure room for its answers

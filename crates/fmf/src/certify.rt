@@ -1,5 +1,5 @@
 ghost use Rattle.std.specs.Prelude.{◌≡◌, ℕ, ◌++◌, ◌+◌, ◌<◌, ◌^◌, IfOk, OnOk, replicate};
-ghost use Rattle.fmf.specs.Certified.{block_of, lines_of, one_element_model, constant_zero, orders, zero_steps};
+ghost use Rattle.fmf.specs.Certified.{answering_block, refuting_block, block_of, lines_of, one_element_model, constant_zero, orders, zero_steps};
 
 use fm_bank::Atom;
 use fm_base::{Interp, SortId, Table};
@@ -7,9 +7,37 @@ use fm_cert::{Block, CertLit, Claim, Line};
 use sqlite_items::Items;
 use std::alloc::{AllocError, Global};
 
-/// The block that answers a `check-sat` where so many sorts and constants stand declared and all assertions are
-/// equations of constants.
-pub fn certify(alloc: Global, number: u64, sorts: usize, consts: usize) -> Result<Block, AllocError>
+/// The block that answers a `check-sat` where so many sorts and constants stand declared, and all assertions are
+/// equations of constants and truth values; `falsity` is the number of the clause of the first `false`.
+pub fn answering(
+    alloc: Global,
+    number: u64,
+    sorts: usize,
+    consts: usize,
+    falsity: Option<usize>,
+) -> Result<Block, AllocError>
+    ensures { IfOk result (λ b. b ≡ answering_block number sorts consts falsity) }
+{
+    match falsity {
+        Some(clause) => refuting(alloc, number, clause),
+        None => certify(alloc, number, sorts, consts),
+    }
+}
+
+fn refuting(alloc: Global, number: u64, clause: usize) -> Result<Block, AllocError>
+    ensures { IfOk result (λ b. b ≡ refuting_block number clause) }
+{
+    let terms = Items::new(alloc);
+    let mut lines = Vec::new(alloc);
+    lines.push(Line::Instance { clause, terms })?;
+    Ok(Block {
+        number,
+        lines: Items::from_vec(lines),
+        claim: Claim::Unsat,
+    })
+}
+
+fn certify(alloc: Global, number: u64, sorts: usize, consts: usize) -> Result<Block, AllocError>
     ensures { IfOk result (λ b. b ≡ block_of number sorts consts) }
 {
     let lines = lines_for(alloc, sorts)?;

@@ -6,7 +6,9 @@
 
 mod answers;
 mod certify;
+mod executed;
 mod replies;
+mod scopes;
 mod solve;
 mod status;
 #[cfg(test)]

@@ -2,16 +2,15 @@ ghost use Rattle.std.specs.Prelude.{◌≡◌, ◌≢◌, ℕ, ◌⊎◌, ◌↔
 ghost use Rattle.fm_files.specs.Seen.{Seen, OnlyWrites, SameByName, SameButAt, NoFault, HasRoom, Rose};
 ghost use Rattle.fmf.specs.Answers.{refusal_reply};
 ghost use Rattle.fmf.specs.Filing.{CountsRose};
-ghost use Rattle.fmf.specs.Outputs.{Wrote, Refused, at_start, Ran, Unchanged, Certifies, IsEnough, IsSure, HasNoFault};
+ghost use Rattle.fmf.specs.Outputs.{Wrote, at_start as at_start_of, Ran, Unchanged, Certifies, IsEnough, IsSure, HasNoFault};
 ghost use Rattle.fmf.specs.Words.{dash, cert, script_of};
 
-use crate::answers::answer_all;
-use crate::replies::error_line;
+use crate::answers::{answer_all, refuse};
 use crate::status::Status;
-use crate::words::{DASH, script_word};
+use crate::words::script_word;
 use fm_base::{Fail, Place, Reason, Refusal};
-use fm_files::{Files, ReadError, read_all, write_all_of};
-use fm_script::read_thin;
+use fm_files::{Files, ReadError, read_all};
+use fm_sexp::read_sexps;
 use std::alloc::Global;
 
 /// The longest script, in bytes.
@@ -20,15 +19,16 @@ pub const LONGEST_SCRIPT: usize = 16_777_216;
 /// Runs the command that the words give, which are the command line without the program's name.
 ///
 /// The words are `solve SCRIPT`. The script is read whole, then answered: the replies go to `-` and the evidence to
-/// the file `fmf.cert`, which is made anew. A script that is too long or isn't a thin script is refused, and then
-/// `fmf.cert` isn't touched.
+/// the file `fmf.cert`, which is made anew. A script that is too long or doesn't read as items is refused, and then
+/// `fmf.cert` isn't touched; else its commands are answered up to `exit` or to the first one that is refused.
 pub fn run<F: Files>(alloc: Global, words: &[String], files: &mut F) -> Status
     ensures usage { (result ≡ Status.Usage) ↔ (script_of (map (λ w. string_bytes w) words.now) ≡ None) }
     ensures unused { result ≡ Status.Usage → Unchanged (F.seen files.old) (F.seen files.new) }
     ensures ran { (script : List ℕ) → script_of (map (λ w. string_bytes w) words.now) ≡ Some script → Ran script (F.seen files.old) (F.seen files.new) result }
 
-    // Each answer `sat` carries a good block, a model of the assertions in force and the proof that it is least.
-    ensures sat_claim { (script : List ℕ) → script_of (map (λ w. string_bytes w) words.now) ≡ Some script → result ≡ Status.Done → Certifies script (F.seen files.old) (F.seen files.new) }
+    // Each answer carries a good block whose claim holds: for `sat` a model of the assertions in force and the proof that
+    // it is least, for `unsat` that no interpretation is a model of them.
+    ensures claims { (script : List ℕ) → script_of (map (λ w. string_bytes w) words.now) ≡ Some script → result ≡ Status.Done → Certifies script (F.seen files.old) (F.seen files.new) }
 
     ensures left { (script : List ℕ) → script_of (map (λ w. string_bytes w) words.now) ≡ Some script → SameButAt (F.seen files.old).left (F.seen files.new).left script }
     ensures read_fault { (script : List ℕ) → script_of (map (λ w. string_bytes w) words.now) ≡ Some script → result ≡ Status.ReadFault → Rose ((F.seen files.old).read_faults script) ((F.seen files.new).read_faults script) }
@@ -39,6 +39,14 @@ pub fn run<F: Files>(alloc: Global, words: &[String], files: &mut F) -> Status
         Some(script) => solve(alloc, script, files),
         None => Status::Usage,
     }
+}
+
+// A refusal that stands for the whole text.
+fn at_start(reason: Reason) -> Refusal
+    ensures { result ≡ at_start_of reason }
+{
+    let at = Place { line: 1, column: 1 };
+    Refusal { reason, at }
 }
 
 // Reads the script and answers it.
@@ -52,7 +60,7 @@ fn solve<F: Files>(alloc: Global, script: &str, files: &mut F) -> Status
 {
     match read_all(alloc, files, script, LONGEST_SCRIPT) {
         Ok(text) => answer_text(alloc, text.as_slice(), files),
-        Err(ReadError::TooLong) => refuse(alloc, Reason::TooLong, files),
+        Err(ReadError::TooLong) => refuse(alloc, at_start(Reason::TooLong), files),
         Err(ReadError::Fault) => Status::ReadFault,
         Err(ReadError::Memory) => Status::Memory,
     }
@@ -66,27 +74,9 @@ fn answer_text<F: Files>(alloc: Global, text: &[u8], files: &mut F) -> Status
     ensures cause { result ≡ Status.WriteFault → CountsRose (F.seen files.old) (F.seen files.new) }
     ensures never { (out file : ℕ) → IsEnough text.now out file → HasRoom ((F.seen files.old).room dash) out → HasRoom ((F.seen files.old).room cert) file → (result ≢ Status.WriteFault) × NoFault (F.seen files.old) (F.seen files.new) }
 {
-    match read_thin(alloc, text) {
-        Ok(commands) => answer_all(alloc, commands.as_slice(), files),
-        Err(Fail::Refused(refusal)) => refuse(alloc, refusal.reason, files),
+    match read_sexps(alloc, text) {
+        Ok(items) => answer_all(alloc, text, items.as_slice(), files),
+        Err(Fail::Refused(refusal)) => refuse(alloc, refusal, files),
         Err(Fail::Memory) => Status::Memory,
-    }
-}
-
-// Writes the reply to a refusal of the whole text.
-fn refuse<F: Files>(alloc: Global, reason: Reason, files: &mut F) -> Status
-    ensures wrote { Refused (at_start reason) (F.seen files.old).written (F.seen files.new).written result }
-    ensures leaves { OnlyWrites (F.seen files.old) (F.seen files.new) }
-    ensures cause { result ≡ Status.WriteFault → CountsRose (F.seen files.old) (F.seen files.new) }
-    ensures never { (out : ℕ) → length (refusal_reply (at_start reason)) ≤ out → HasRoom ((F.seen files.old).room dash) out → (result ≢ Status.WriteFault) × NoFault (F.seen files.old) (F.seen files.new) }
-{
-    let at = Place { line: 1, column: 1 };
-    let reply = match error_line(alloc, Refusal { reason, at }) {
-        Ok(reply) => reply,
-        Err(_) => return Status::Memory,
-    };
-    match write_all_of(files, DASH, reply.as_slice()) {
-        Ok(()) => Status::Script,
-        Err(_) => Status::WriteFault,
     }
 }

@@ -33,6 +33,8 @@ fn solve_in(alloc: Global, files: &mut MemFiles) -> Result<Status, Fail> {
     Ok(run(alloc, words.as_slice(), files))
 }
 
+const HEADER: &[u8] = b"fmfcert 1\n";
+
 const EQUATION: &[u8] =
     b"(declare-sort U 0)(declare-const a U)(declare-const b U)(assert (= a b))(check-sat)";
 
@@ -69,7 +71,37 @@ fn answers_scripts(rt: HostRuntime) -> Result<(), Fail> {
             b"(push 1)".as_slice(),
             Status::Script,
             b"(error \"20 at 1:1: not yet\")\n".as_slice(),
+            HEADER,
+        ),
+        (
+            b"(echo \"a\")(check-sat)(get-model)".as_slice(),
+            Status::Script,
+            b"\"a\"\nsat\n(error \"20 at 1:22: not yet\")\n".as_slice(),
+            b"fmfcert 1\nb 0\nq sat 0\nz\n".as_slice(),
+        ),
+        (
+            b"(declare-sort U 0)\n(assert (and".as_slice(),
+            Status::Script,
+            b"(error \"4 at 2:13: unexpected end\")\n".as_slice(),
             b"".as_slice(),
+        ),
+        (
+            b"(assert false)(check-sat)".as_slice(),
+            Status::Done,
+            b"unsat\n".as_slice(),
+            b"fmfcert 1\nb 0\ni 0\nq unsat\n".as_slice(),
+        ),
+        (
+            b"(assert true)(check-sat)".as_slice(),
+            Status::Done,
+            b"sat\n".as_slice(),
+            b"fmfcert 1\nb 0\nq sat 0\nz\n".as_slice(),
+        ),
+        (
+            b"(declare-sort |a sort| 0)(declare-const c |a sort|)(assert (= c |c|))(check-sat)(assert false)(assert false)(check-sat)(exit)(pop)".as_slice(),
+            Status::Done,
+            b"sat\nunsat\n".as_slice(),
+            b"fmfcert 1\nb 0\ns 0 0\no z 0\nr 0 +C0,0 1\nq sat 1\nz 1\nd 0\nb 1\ni 1\nq unsat\n".as_slice(),
         ),
     ];
     for (script, status, reply, cert) in rows {
@@ -94,7 +126,10 @@ fn refuses_long_scripts(rt: HostRuntime) -> Result<(), Fail> {
         ),
     ];
     for (length, status, reply) in rows {
-        let script = vec![in rt.alloc(); b' '; length]?;
+        let mut script = vec![in rt.alloc(); b'x'; length]?;
+        if let Some(first) = script.first_mut() {
+            *first = b';';
+        }
         let mut files = files_with(rt.alloc(), script, &[], &[])?;
         let answer = solve_in(rt.alloc(), &mut files)?;
         assert_eq!(rt; answer, status);
@@ -156,5 +191,138 @@ fn reports_faults(rt: HostRuntime) -> Result<(), Fail> {
             "at call {call}"
         );
     }
+    Ok(())
+}
+
+#[test]
+fn refuses_texts_and_commands(rt: HostRuntime) -> Result<(), Fail> {
+    let rows = [
+        (
+            b"{".as_slice(),
+            b"(error \"1 at 1:1: bad token\")\n".as_slice(),
+        ),
+        (
+            b"))".as_slice(),
+            b"(error \"2 at 1:1: unbalanced parenthesis\")\n".as_slice(),
+        ),
+        (
+            b"(foo)".as_slice(),
+            b"(error \"5 at 1:1: unknown command\")\n".as_slice(),
+        ),
+        (
+            b"(push 18446744073709551616)".as_slice(),
+            b"(error \"7 at 1:7: number too wide\")\n".as_slice(),
+        ),
+        (
+            b"(|assert| q)".as_slice(),
+            b"(error \"6 at 1:1: bad shape\")\n".as_slice(),
+        ),
+        (
+            b"(declare-sort U 0)(declare-sort U 0)".as_slice(),
+            b"(error \"20 at 1:19: not yet\")\n".as_slice(),
+        ),
+    ];
+    for (script, reply) in rows {
+        let script = Vec::from_slice(rt.alloc(), script)?;
+        let mut files = files_with(rt.alloc(), script, &[], &[])?;
+        let answer = solve_in(rt.alloc(), &mut files)?;
+        assert_eq!(rt; answer, Status::Script);
+        assert_eq!(rt; files.written("-"), reply);
+    }
+    Ok(())
+}
+
+#[test]
+fn reads_deep_scripts(rt: HostRuntime) -> Result<(), Fail> {
+    let rows = [
+        (200, b"(error \"6 at 1:1: bad shape\")\n".as_slice()),
+        (
+            201,
+            b"(error \"3 at 1:201: nested too deeply\")\n".as_slice(),
+        ),
+    ];
+    for (depth, reply) in rows {
+        let mut script = vec![in rt.alloc(); b'('; depth]?;
+        let closing = vec![in rt.alloc(); b')'; depth]?;
+        script.extend_from_slice(closing.as_slice())?;
+        let mut files = files_with(rt.alloc(), script, &[], &[])?;
+        let answer = solve_in(rt.alloc(), &mut files)?;
+        assert_eq!(rt; answer, Status::Script);
+        assert_eq!(rt; files.written("-"), reply);
+    }
+    Ok(())
+}
+
+const NOT_BUILT: [&[u8]; 12] = [
+    b"(set-logic UF)",
+    b"(set-option :print-success true)",
+    b"(get-info :name)",
+    b"(define-sort S () U)",
+    b"(declare-const c U)",
+    b"(declare-fun f (U) U)",
+    b"(define-fun f ((x U)) U x)",
+    b"(push 1)",
+    b"(push)",
+    b"(pop 1)",
+    b"(get-model)",
+    b"(get-value (a))",
+];
+
+const BAD_SHAPES: [&[u8]; 20] = [
+    b"(set-logic)",
+    b"(set-option a true)",
+    b"(set-info)",
+    b"(get-info name)",
+    b"(declare-sort U)",
+    b"(define-sort S U U)",
+    b"(declare-const c 5)",
+    b"(declare-const assert U)",
+    b"(declare-fun f U U)",
+    b"(declare-fun f (5) U)",
+    b"(define-fun f (x) U x)",
+    b"(assert)",
+    b"(push x)",
+    b"(pop 1 2)",
+    b"(check-sat 1)",
+    b"(get-model 1)",
+    b"(exit 0)",
+    b"(get-value ())",
+    b"(echo a)",
+    b"()",
+];
+
+#[test]
+fn knows_shapes(rt: HostRuntime) -> Result<(), Fail> {
+    for text in NOT_BUILT {
+        let script = Vec::from_slice(rt.alloc(), text)?;
+        let mut files = files_with(rt.alloc(), script, &[], &[])?;
+        let answer = solve_in(rt.alloc(), &mut files)?;
+        assert_eq!(rt; answer, Status::Script);
+        assert_eq!(rt;
+            files.written("-"),
+            b"(error \"20 at 1:1: not yet\")\n".as_slice()
+        );
+    }
+    for text in BAD_SHAPES {
+        let script = Vec::from_slice(rt.alloc(), text)?;
+        let mut files = files_with(rt.alloc(), script, &[], &[])?;
+        let answer = solve_in(rt.alloc(), &mut files)?;
+        assert_eq!(rt; answer, Status::Script);
+        assert_eq!(rt;
+            files.written("-"),
+            b"(error \"6 at 1:1: bad shape\")\n".as_slice()
+        );
+    }
+    let script = Vec::from_slice(
+        rt.alloc(),
+        b"(set-info :status sat)(set-info :x)(echo \"b\")(set-option :print-success maybe)",
+    )?;
+    let mut files = files_with(rt.alloc(), script, &[], &[])?;
+    let answer = solve_in(rt.alloc(), &mut files)?;
+    assert_eq!(rt; answer, Status::Script);
+    assert_eq!(rt;
+        files.written("-"),
+        b"\"b\"\n(error \"6 at 1:73: bad shape\")\n".as_slice()
+    );
     Ok(())
 }

@@ -1,9 +1,7 @@
-use Rattle.std.proofs.Common.{map, sym, subst}
-use Rattle.fm_script.specs.declared.thin.Thin.{Thin}
-use Rattle.fm_script.specs.Thin.{said}
-use Rattle.fmf.specs.Outputs.{FitIn}
+use Rattle.std.proofs.Common.{◌≡◌, length, true, sym, subst}
+use Rattle.fm_sexp.proofs.Spans.{all_lie}
+use Rattle.fm_sexp.specs.Items.{all_within}
 use Rattle.fmf.proofs.solve.answer_text.Goals as goal
 
-pub returns-in-Ok-clause-never : goal.returns-in-Ok-clause-never
-returns-in-Ok-clause-never g c = λ out file enough room_out room_file.
-    c.answer_all.ensures.never out file (subst (λ xs. FitIn (map said xs) out file) (sym c.as_slice.ensures.value) (enough.answers (map said c.in-Ok.commands.items) c.in-Ok.ensures.thin)) room_out room_file
+pub answer_all-requires : goal.answer_all-requires
+answer_all-requires g c = subst (λ xs. all_within (length c.args.text.now) xs ≡ true) (sym c.as_slice.ensures) (all_lie c.args.text.now c.in-Ok.items c.in-Ok.ensures.reads)
