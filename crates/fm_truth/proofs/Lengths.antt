@@ -1,7 +1,7 @@
 -- Tests of tables, from a place of the list on.
-use Rattle.std.proofs.Common.{◌≡◌, ℕ, suc, ◌+◌, ◌<◌, Bool, true, false, ◌&&◌, List, [], ◌∷◌, length, drop, get_or, ap, refl, sym, ◌∙◌, arith}
+use Rattle.std.proofs.Common.{◌≡◌, ℕ, suc, true, false, List, [], ◌∷◌, length, ap, refl}
 use Rattle.std.specs.Prelude.{nat_lt}
-use Rattle.std.proofs.lemmas.Bool.{and_parts, and_left, false_from_ne_true, true≢false}
+use Rattle.std.proofs.lemmas.Bool.{and_parts, false_from_ne_true}
 use Rattle.fm_base.specs.Interpretations.{Reading, is_tuple, values_of, are_tables, is_table}
 use Rattle.fm_base.specs.declared.signature.Ty.{Ty}
 use Rattle.fm_base.specs.declared.signature.Rank.{Rank}

@@ -1,1 +1,6 @@
+pub mod Blocks
+pub mod Fitting
+pub mod Largest
 pub mod Lengths
+pub mod Searches
+pub mod Weights

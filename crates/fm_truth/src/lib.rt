@@ -1,8 +1,19 @@
-//! Tests of interpretations given by tables.
+//! Truth of formulas over finite domains, and tests of interpretations given by tables.
 #![tactic(auto)]
 
+#[cfg(test)]
+mod checked;
+mod evaluate;
+mod failing;
+mod lookup;
+mod rooms;
 mod tables;
 #[cfg(test)]
 mod tests;
+#[cfg(test)]
+mod truth_tests;
 
+pub use evaluate::{holds, value};
+pub use failing::{Falsity, first_failing};
+pub use rooms::Env;
 pub use tables::fits;

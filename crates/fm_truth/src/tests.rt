@@ -24,7 +24,12 @@ fn signature(alloc: Global) -> Result<Sig, AllocError> {
 }
 
 // The exceptions stand one after another in `numbers`, each a tuple of `arity` numbers and its value.
-fn table(alloc: Global, default: u64, arity: usize, numbers: &[u64]) -> Result<Table, AllocError> {
+pub fn table(
+    alloc: Global,
+    default: u64,
+    arity: usize,
+    numbers: &[u64],
+) -> Result<Table, AllocError> {
     let mut entries = Vec::new(alloc);
     for entry in numbers.chunks_exact(arity.saturating_add(1)) {
         if let Some((value, tuple)) = entry.split_last() {

@@ -1,0 +1,44 @@
+-- The measure of an evaluation: each call goes to something lighter.
+use Rattle.std.proofs.Common.{◌≡◌, ℕ, zero, suc, ◌+◌, ◌*◌, ◌<◌, ◌≤◌, List, [], ◌∷◌, length, map, get_or, sym, subst, arith}
+use Rattle.fm_base.specs.declared.formula.Formula.{Formula}
+use Rattle.fm_base.specs.declared.formula.Fterm.{Fterm}
+use Rattle.fm_base.specs.declared.formula.Formula.TheOpen.{Formula-F, Fterm-F}
+use Rattle.fm_base.specs.declared.formula.Formula.TheFolds.{fold-Formula, fold-Fterm}
+
+abbrev pub total : List ℕ → ℕ
+total [] = 0
+total (n ∷ ns) = n + total ns
+
+abbrev pub formula_weight_step : Formula-F ℕ ℕ → ℕ
+formula_weight_step (Formula-F.Truth b) = 1
+formula_weight_step (Formula-F.Pred p ts) = 3 + total ts
+formula_weight_step (Formula-F.Equal a b) = 1 + (a + b)
+formula_weight_step (Formula-F.Not a) = 1 + a
+formula_weight_step (Formula-F.And fs) = 2 + total fs
+formula_weight_step (Formula-F.Or fs) = 2 + total fs
+formula_weight_step (Formula-F.Iff a b) = 1 + (a + b)
+formula_weight_step (Formula-F.«Formula::Ite» c a b) = 1 + (c + (a + b))
+formula_weight_step (Formula-F.Quant all vars body) = 2 + (2 * length vars + body)
+
+abbrev pub term_weight_step : Fterm-F ℕ ℕ → ℕ
+term_weight_step (Fterm-F.Var v) = 1
+term_weight_step (Fterm-F.App f ts) = 3 + total ts
+term_weight_step (Fterm-F.«Fterm::Ite» c a b) = 1 + (c + (a + b))
+
+abbrev pub formula_weight : Formula → ℕ
+formula_weight = fold-Formula ℕ ℕ formula_weight_step term_weight_step
+
+abbrev pub term_weight : Fterm → ℕ
+term_weight = fold-Fterm ℕ ℕ formula_weight_step term_weight_step
+
+pub weight_item : {X : Type 0} (f : X → ℕ) (xs : List X) (i : ℕ) (d : X) → i < length xs → f (get_or xs i d) ≤ total (map f xs)
+weight_item f [] i d lt = absurd (omega arith)
+weight_item f (x ∷ xs) zero d lt = let h : f x ≤ f x + total (map f xs) = omega arith in h
+weight_item f (x ∷ xs) (suc i) d lt =
+    let h : f (get_or xs i d) ≤ total (map f xs) = weight_item f xs i d (omega arith) in
+    let k : f (get_or xs i d) ≤ f x + total (map f xs) = omega arith in
+    k
+
+-- the same of the item that a loop reads
+pub item-weight : {X : Type 0} (f : X → ℕ) (xs : List X) (i : ℕ) (x : X) → i < length xs → x ≡ get_or xs i x → f x ≤ total (map f xs)
+item-weight f xs i x lt e = subst (λ y. f y ≤ total (map f xs)) (sym e) (weight_item f xs i x lt)
