@@ -1,5 +1,5 @@
--- What a run that is Done leaves is one good block for each `check-sat`, with the words of their claims.
-use Rattle.std.proofs.Common.{◌≡◌, ℕ, ◌+◌, List, [], ◌∷◌, ◌++◌, refl, sym, ap, subst, ◌∙◌, inl, inr, arith, Option, Some, None, length, ◌≤◌}
+-- What a run leaves that is Done or has refused a command is one good block for each `check-sat`, with the words of their claims.
+use Rattle.std.proofs.Common.{◌≡◌, ◌⊎◌, ℕ, ◌+◌, List, [], ◌∷◌, ◌++◌, refl, sym, ap, subst, ◌∙◌, inl, inr, arith, Option, Some, None, length, ◌≤◌}
 use Rattle.std.specs.List.{flat_map}
 use Rattle.std.specs.Io.KnownBytes.{Consumes, IsAtEnd}
 use Rattle.fm_files.specs.Seen.{Seen, OnlyReads, OnlyWrites, Holds}
@@ -11,12 +11,13 @@ use Rattle.fm_cert.specs.Lines.{Problem}
 use Rattle.fm_cert.specs.Claims.{AreGoodFrom}
 use Rattle.fm_cert.specs.Spelling.{header, spelling_of_block}
 use Rattle.fm_cert.specs.declared.block.Block.{Block}
-use Rattle.fmf.specs.Answers.{Answers, AreAnswered, checks_in, count_checks, falsity_in}
+use Rattle.fmf.specs.Answers.{Answers, AreAnswered, checks_in, count_checks, falsity_in, refusal_reply}
 use Rattle.fmf.specs.Certified.{answering_block}
 use Rattle.fmf.specs.InForce.{declared_by, problem_at, problems_after, problems_of}
 use Rattle.fmf.specs.Outputs.{Written, Filed, Wrote, ReadWhole, Ran, Certifies, longest}
 use Rattle.fmf.specs.Words.{cert}
 use Rattle.fmf.specs.declared.status.Status.{Status}
+use Rattle.fmf.proofs.Filings.{cert≢dash}
 use Rattle.fmf.proofs.Stepping.{count_checks-push}
 
 -- the blocks behind the bytes
@@ -101,6 +102,25 @@ pub certifies_at : (script name : List ℕ) (word : Option (List ℕ)) (old new 
 certifies_at script name word old new status e f ran done =
     let same : name ≡ script = cc (e, f) in
     subst (λ (s : List ℕ). Certifies s old new) same (certifies name old new (subst (λ (s : Status). Ran name old new s) done ran))
+
+-- a refusal of a command comes behind good answers, any other leaves the certificate's file alone
+pub certifies_refused : (script : List ℕ) (old new : Seen) → Ran script old new Status.Script → Certifies script old new ⊎ (new.written cert ≡ old.written cert)
+certifies_refused script old new ran =
+    elim ran [
+      | inl whole ↦ elim whole.wrote [
+        | inl reads ↦ inl (certifies_filed script whole.text reads.0 reads.2.blocks reads.2.replies (reads.2.replies ++ refusal_reply reads.2.refusal) old new whole.read reads.1 reads.2.answers reads.2.filed)
+        | inr other ↦ elim other [ inl refused ↦ inr (refused.2.others cert cert≢dash) | inr memory ↦ absurd (cc memory.0) ]
+      ]
+      | inr other ↦ elim other [
+        | inl long ↦ inr (long.refused.others cert cert≢dash)
+        | inr failed ↦ elim failed.answer [ inl e ↦ absurd (cc e) | inr e ↦ absurd (cc e) ]
+      ]
+    ]
+
+pub certifies_refused_at : (script name : List ℕ) (word : Option (List ℕ)) (old new : Seen) (status : Status) → word ≡ Some name → word ≡ Some script → Ran name old new status → status ≡ Status.Script → Certifies script old new ⊎ (new.written cert ≡ old.written cert)
+certifies_refused_at script name word old new status e f ran refused =
+    let same : name ≡ script = cc (e, f) in
+    subst (λ (s : List ℕ). Certifies s old new ⊎ (new.written cert ≡ old.written cert)) same (certifies_refused name old new (subst (λ (s : Status). Ran name old new s) refused ran))
 
 -- the whole text was read by the first call and answered by the second
 pub ran_whole : (script text : List ℕ) (old mid new : Seen) (status : Status) → Consumes (old.left script) (mid.left script) text → IsAtEnd (mid.left script) → OnlyReads old mid script → Wrote text mid.written new.written status → OnlyWrites mid new → length text ≤ longest → ReadWhole script old new status

@@ -30,6 +30,9 @@ pub fn run<F: Files>(alloc: Global, words: &[String], files: &mut F) -> Status
     // it is least, for `unsat` that no interpretation is a model of them.
     ensures claims { (script : List ℕ) → script_of (map (λ w. string_bytes w) words.now) ≡ Some script → result ≡ Status.Done → Certifies script (F.seen files.old) (F.seen files.new) }
 
+    // The same where a command was refused; any other refusal leaves the certificate alone.
+    ensures claims_refused { (script : List ℕ) → script_of (map (λ w. string_bytes w) words.now) ≡ Some script → result ≡ Status.Script → Certifies script (F.seen files.old) (F.seen files.new) ⊎ ((F.seen files.new).written cert ≡ (F.seen files.old).written cert) }
+
     ensures left { (script : List ℕ) → script_of (map (λ w. string_bytes w) words.now) ≡ Some script → SameButAt (F.seen files.old).left (F.seen files.new).left script }
     ensures read_fault { (script : List ℕ) → script_of (map (λ w. string_bytes w) words.now) ≡ Some script → result ≡ Status.ReadFault → Rose ((F.seen files.old).read_faults script) ((F.seen files.new).read_faults script) }
     ensures write_fault { result ≡ Status.WriteFault → CountsRose (F.seen files.old) (F.seen files.new) }
