@@ -16,5 +16,5 @@ pub use ids::{AtomId, Lit, Memory, Reader, SortId, SymId, TermId};
 pub use interp::{Interp, Table};
 pub use laws::{blocks_read_every_tuple, tables_interpret, truth_by_cases};
 pub use refusal::{Fail, Place, Reason, Refusal};
-pub use signature::{Rank, Sig, Ty};
+pub use signature::{Rank, Sig, Ty, have_one_sort};
 pub use undo::Undo;
