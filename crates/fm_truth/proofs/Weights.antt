@@ -1,5 +1,5 @@
 -- The measure of an evaluation: each call goes to something lighter.
-use Rattle.std.proofs.Common.{◌≡◌, ℕ, zero, suc, ◌+◌, ◌*◌, ◌<◌, ◌≤◌, List, [], ◌∷◌, length, map, get_or, sym, subst, arith}
+use Rattle.std.proofs.Common.{◌≡◌, ℕ, zero, suc, ◌+◌, ◌<◌, ◌≤◌, List, [], ◌∷◌, length, map, get_or, sym, subst, arith}
 use Rattle.fm_base.specs.declared.formula.Formula.{Formula}
 use Rattle.fm_base.specs.declared.formula.Fterm.{Fterm}
 use Rattle.fm_base.specs.declared.formula.Formula.TheOpen.{Formula-F, Fterm-F}
@@ -18,7 +18,7 @@ formula_weight_step (Formula-F.And fs) = 2 + total fs
 formula_weight_step (Formula-F.Or fs) = 2 + total fs
 formula_weight_step (Formula-F.Iff a b) = 1 + (a + b)
 formula_weight_step (Formula-F.«Formula::Ite» c a b) = 1 + (c + (a + b))
-formula_weight_step (Formula-F.Quant all vars body) = 2 + (2 * length vars + body)
+formula_weight_step (Formula-F.Quant all vars body) = 2 + body
 
 abbrev pub term_weight_step : Fterm-F ℕ ℕ → ℕ
 term_weight_step (Fterm-F.Var v) = 1

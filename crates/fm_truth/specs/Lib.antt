@@ -2,6 +2,6 @@ pub use Rattle.fm_base.specs.Interpretations
 pub use Rattle.fm_base.specs.Models
 pub use Rattle.fm_base.specs.Truth
 pub mod Failing
-pub mod Least
 pub mod Lookup
 pub mod Room
+pub mod Tuples

@@ -1,11 +1,11 @@
 // Evaluations behind tests of what they require: that the interpretation fits, and that what is evaluated is closed
 // and well sorted.
-ghost use Rattle.std.specs.Prelude.{◌≡◌, ◌++◌, true, map, nat_lt, slice_get, IfOk};
+ghost use Rattle.std.specs.Prelude.{◌≡◌, ◌++◌, true, map, slice_get, IfOk};
 ghost use Rattle.std.specs.List.{list_all};
-ghost use Rattle.fm_base.specs.Truth.{is_closed, is_well_sorted, sort_of, is_bool, declared_sort, is_of_sort, have_one_sort, are_arguments, all_sorted};
+ghost use Rattle.fm_base.specs.Truth.{is_closed, is_well_sorted, sort_of, are_arguments, all_sorted};
 
 use crate::{Env, Falsity, first_failing, fits, holds, value};
-use fm_base::{Formula, Fterm, Interp, Memory, Sig, SortId, Ty};
+use fm_base::{Formula, Fterm, Interp, Memory, Sig, SortId, Ty, have_one_sort};
 use std::alloc::Global;
 
 // The truth of each formula, or None where something doesn't fit.
@@ -81,14 +81,14 @@ fn formula_sorted(
             Some(rank) => {
                 let args = rank.args.as_slice();
                 let fit = terms_fit(alloc, sig, terms.as_slice(), args, scope)?;
-                Ok(is_truth_value(rank.result) && fit)
+                Ok(rank.result.is_bool() && fit)
             }
             None => Ok(false),
         },
         Formula::Equal(left, right) => {
             let left = term_sort(alloc, sig, left, scope)?;
             let right = term_sort(alloc, sig, right, scope)?;
-            Ok(same_sort(left, right))
+            Ok(have_one_sort(left, right))
         }
         Formula::Not(body) => formula_sorted(alloc, sig, body.get(), scope),
         Formula::And(members) => formulas_sorted(alloc, sig, members.as_slice(), scope),
@@ -108,7 +108,7 @@ fn formula_sorted(
             let mut inner = Vec::from_slice(alloc, scope)?;
             inner.extend_from_slice(vars.as_slice())?;
             let body = formula_sorted(alloc, sig, body.get(), inner.as_slice())?;
-            Ok(are_named(sig, vars.as_slice()) && body)
+            Ok(sig.has_sorts(vars.as_slice()) && body)
         }
     }
 }
@@ -128,7 +128,7 @@ fn term_sort(
             Some(rank) => {
                 let args = rank.args.as_slice();
                 let fit = terms_fit(alloc, sig, terms.as_slice(), args, scope)?;
-                Ok(if fit { sort_of_type(rank.result) } else { None })
+                Ok(if fit { rank.result.sort() } else { None })
             }
             None => Ok(None),
         },
@@ -136,7 +136,7 @@ fn term_sort(
             let test = formula_sorted(alloc, sig, test.get(), scope)?;
             let left = term_sort(alloc, sig, left.get(), scope)?;
             let right = term_sort(alloc, sig, right.get(), scope)?;
-            Ok(if test && same_sort(left, right) {
+            Ok(if test && have_one_sort(left, right) {
                 left
             } else {
                 None
@@ -154,14 +154,12 @@ fn formulas_sorted(
 ) -> Result<bool, Memory>
     ensures { IfOk result (λ b. b ≡ all_sorted (map is_well_sorted formulas.now) sig.now scope.now) }
 {
-    match formulas.split_first() {
-        None => Ok(true),
-        Some((first, rest)) => {
-            let first = formula_sorted(alloc, sig, first, scope)?;
-            let rest = formulas_sorted(alloc, sig, rest, scope)?;
-            Ok(first && rest)
+    for formula in formulas {
+        if !formula_sorted(alloc, sig, formula, scope)? {
+            return Ok(false);
         }
     }
+    Ok(true)
 }
 
 #[cycle(sorted)]
@@ -181,7 +179,7 @@ fn terms_fit(
             Some((ty, types)) => {
                 let sort = term_sort(alloc, sig, term, scope)?;
                 let rest = terms_fit(alloc, sig, terms, types, scope)?;
-                Ok(is_of_type(sort, *ty) && rest)
+                Ok(ty.takes(sort) && rest)
             }
         },
     }
@@ -191,49 +189,4 @@ fn variable_sort(scope: &[SortId], variable: usize) -> Option<SortId>
     ensures { result ≡ slice_get scope.now variable }
 {
     scope.get(variable).copied()
-}
-
-fn is_of_type(sort: Option<SortId>, ty: Ty) -> bool
-    ensures { result ≡ is_of_sort sort ty }
-{
-    match sort {
-        None => false,
-        Some(sort) => match ty {
-            Ty::Bool => false,
-            Ty::Of(other) => sort.0 == other.0,
-        },
-    }
-}
-
-fn same_sort(left: Option<SortId>, right: Option<SortId>) -> bool
-    ensures { result ≡ have_one_sort left right }
-{
-    match left {
-        None => false,
-        Some(sort) => is_of_type(right, Ty::Of(sort)),
-    }
-}
-
-fn sort_of_type(ty: Ty) -> Option<SortId>
-    ensures { result ≡ declared_sort ty }
-{
-    match ty {
-        Ty::Bool => None,
-        Ty::Of(sort) => Some(sort),
-    }
-}
-
-fn is_truth_value(ty: Ty) -> bool
-    ensures { result ≡ is_bool ty }
-{
-    match ty {
-        Ty::Bool => true,
-        Ty::Of(_) => false,
-    }
-}
-
-fn are_named(sig: &Sig, sorts: &[SortId]) -> bool
-    ensures { result ≡ list_all (λ s. nat_lt s.0 sig.now.sorts) sorts.now }
-{
-    sorts.iter().all(|sort| sort.0 < sig.sorts)
 }

@@ -1,12 +1,14 @@
-ghost use Rattle.std.specs.Prelude.{◌≡◌, ◌+◌, ◌≤◌, ◌++◌, ◌∷◌, [], ℕ, true, map, take, length, slice_index, IsSome};
+ghost use Rattle.std.specs.Prelude.{◌≡◌, ◌+◌, ◌≤◌, ◌++◌, [], ℕ, true, not, map, take, length, slice_index, IsSome};
 ghost use Rattle.fm_base.specs.Interpretations.{reading_of, is_fit};
 ghost use Rattle.fm_base.specs.Truth.{truth, value as value_of, values, all_true, some_true, block, is_closed, sort_of};
 ghost use Rattle.fm_base.specs.declared.signature.Sig.{Sig as TheSig};
 ghost use Rattle.fm_truth.specs.Lookup.{tables_ascend};
 ghost use Rattle.fm_truth.specs.Room.{IsWithin, largest, arguments, room_of, room_of_term};
+ghost use Rattle.fm_truth.specs.Tuples.{IsLeastDeciding, tuple_of};
 
-use crate::lookup::{apply, part, size};
+use crate::lookup::{apply, part};
 use crate::rooms::{Env, Places};
+use crate::tuples::{first_tuple, next_tuple};
 use fm_base::{Formula, Fterm, Interp, SortId, SymId};
 
 /// Tarski's truth of a formula without free variables in an interpretation that fits its signature. It takes no
@@ -215,10 +217,10 @@ fn some_hold(
     false
 }
 
-// A universal block stops at the first element for which the rest is false, an existential one at the first for
-// which it is true.
+// Goes over the tuples in lexicographic order, up to the first that decides: a universal block is false by a tuple at
+// which its body is false, and an existential one true by one at which it is true. That tuple is left in `vars`.
 #[cycle(truth)]
-fn block_holds(
+pub(crate) fn block_holds(
     interp: &Interp,
     all: bool,
     sorts: &[SortId],
@@ -231,46 +233,22 @@ fn block_holds(
     requires vars { taken.vars + (length sorts.now + (room_of body.now).vars) ≤ length vars.old }
     requires args { taken.args + (room_of body.now).args ≤ length args.old }
     ensures value { result ≡ block (reading_of interp.now) all sorts.now (λ inner. truth body.now (reading_of interp.now) inner) (take taken.vars vars.old) }
+    ensures least { result ≡ not all → IsLeastDeciding (reading_of interp.now) all sorts.now body.now (take taken.vars vars.old) (tuple_of sorts.now taken.vars vars.new) }
     ensures same_vars { take taken.vars vars.new ≡ take taken.vars vars.old }
     ensures same_args { take taken.args args.new ≡ take taken.args args.old }
 {
-    let Some((sort, rest)) = sorts.split_first() else {
-        return formula_holds(interp, body, vars, args, taken);
-    };
-    for x in 0..size(interp, *sort) {
-        if element_holds(interp, all, rest, body, vars, args, taken, x) != all {
-            return !all;
-        }
-    }
-    all
-}
-
-// The rest of a block, where its next variable is x.
-#[cycle(truth)]
-pub(crate) fn element_holds(
-    interp: &Interp,
-    all: bool,
-    rest: &[SortId],
-    body: &Formula,
-    vars: &mut [u64],
-    args: &mut [u64],
-    taken: Places,
-    x: u64,
-) -> bool
-    requires tables { tables_ascend interp.now ≡ true }
-    requires vars { taken.vars + (length rest.now + 1 + (room_of body.now).vars) ≤ length vars.old }
-    requires args { taken.args + (room_of body.now).args ≤ length args.old }
-    ensures value { result ≡ block (reading_of interp.now) all rest.now (λ inner. truth body.now (reading_of interp.now) inner) (take taken.vars vars.old ++ x ∷ []) }
-    ensures same_vars { take taken.vars vars.new ≡ take taken.vars vars.old }
-    ensures element { take (taken.vars + 1) vars.new ≡ take taken.vars vars.old ++ x ∷ [] }
-    ensures same_args { take taken.args args.new ≡ take taken.args args.old }
-{
-    vars[taken.vars] = x;
     let inner = Places {
-        vars: taken.vars + 1,
+        vars: taken.vars + sorts.len(),
         args: taken.args,
     };
-    block_holds(interp, all, rest, body, vars, args, inner)
+    let mut more = first_tuple(interp, sorts, vars, taken.vars);
+    while more {
+        if formula_holds(interp, body, vars, args, inner) != all {
+            return !all;
+        }
+        more = next_tuple(interp, sorts, vars, taken.vars);
+    }
+    all
 }
 
 // The variable's value, where `depth` variables are in scope.

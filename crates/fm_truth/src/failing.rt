@@ -1,15 +1,14 @@
-ghost use Rattle.std.specs.Prelude.{◌≡◌, ◌+◌, ◌≤◌, ◌<◌, ◌++◌, ◌∷◌, [], ℕ, true, false, take, length, IfOk, IfNone, IfSome, MatchOption};
+ghost use Rattle.std.specs.Prelude.{◌≡◌, ◌+◌, ◌≤◌, [], true, false, take, length, IfOk, IfNone, IfSome, MatchOption};
 ghost use Rattle.std.specs.List.{All, list_all};
 ghost use Rattle.fm_base.specs.Interpretations.{reading_of, is_fit};
 ghost use Rattle.fm_base.specs.Truth.{truth, block, is_closed};
 ghost use Rattle.fm_base.specs.declared.signature.Sig.{Sig as TheSig};
 ghost use Rattle.fm_truth.specs.Failing.{IsFirstFailing, IsLeastFailing, ShowsFalse, universal_of};
-ghost use Rattle.fm_truth.specs.Least.{IsLeastElement};
 ghost use Rattle.fm_truth.specs.Lookup.{tables_ascend};
-ghost use Rattle.fm_truth.specs.Room.{IsWithin, room, room_of};
+ghost use Rattle.fm_truth.specs.Room.{IsWithin, room_of};
 
-use crate::evaluate::{element_holds, holds};
-use crate::lookup::{part, size};
+use crate::evaluate::{block_holds, holds};
+use crate::lookup::part;
 use crate::rooms::{Env, Places};
 use fm_base::{Formula, Interp, Memory, SortId};
 use sqlite_items::Items;
@@ -89,36 +88,6 @@ fn put_least(interp: &Interp, sorts: &[SortId], body: &Formula, vars: &mut [u64]
     requires fails { block (reading_of interp.now) true sorts.now (λ inner. truth body.now (reading_of interp.now) inner) [] ≡ false }
     ensures { IsLeastFailing (reading_of interp.now) sorts.now body.now (take (length sorts.now) vars.new) }
 {
-    for (i, sort) in sorts.iter().enumerate() {
-        let (_, rest) = sorts.split_at(i + 1);
-        put_least_element(interp, *sort, rest, body, vars, args, i);
-    }
-}
-
-// Writes the least element for which the rest of the block is false behind the `depth` variables in scope.
-fn put_least_element(
-    interp: &Interp,
-    sort: SortId,
-    rest: &[SortId],
-    body: &Formula,
-    vars: &mut [u64],
-    args: &mut [u64],
-    depth: usize,
-)
-    requires tables { tables_ascend interp.now ≡ true }
-    requires vars { depth + (length rest.now + 1 + (room_of body.now).vars) ≤ length vars.old }
-    requires args { (room_of body.now).args ≤ length args.old }
-    requires fails { block (reading_of interp.now) true (sort ∷ rest.now) (λ inner. truth body.now (reading_of interp.now) inner) (take depth vars.old) ≡ false }
-    ensures { IsLeastElement (reading_of interp.now) sort rest.now body.now (take depth vars.old) (take (depth + 1) vars.new) }
-{
-    let taken = Places {
-        vars: depth,
-        args: 0,
-    };
-    for x in 0..size(interp, sort) {
-        if !element_holds(interp, true, rest, body, vars, args, taken, x) {
-            return;
-        }
-    }
-    unreachable!()
+    let none = Places { vars: 0, args: 0 };
+    block_holds(interp, true, sorts, body, vars, args, none);
 }

@@ -5,6 +5,8 @@
 mod checked;
 mod evaluate;
 mod failing;
+#[cfg(test)]
+mod large_tests;
 mod lookup;
 mod rooms;
 mod tables;
@@ -12,6 +14,7 @@ mod tables;
 mod tests;
 #[cfg(test)]
 mod truth_tests;
+mod tuples;
 
 pub use evaluate::{holds, value};
 pub use failing::{Falsity, first_failing};

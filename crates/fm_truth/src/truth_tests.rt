@@ -6,9 +6,9 @@ use std::alloc::Global;
 use std::test::Fail;
 
 // Two sorts U and V; f from U to U, predicates p and r on U, g from V to U, and a constant c of U.
-const U: SortId = SortId(0);
+pub const U: SortId = SortId(0);
 
-const V: SortId = SortId(1);
+pub const V: SortId = SortId(1);
 
 fn rank(alloc: Global, args: &[Ty], value: Ty) -> Result<Rank, Memory> {
     Ok(Rank {
@@ -17,7 +17,7 @@ fn rank(alloc: Global, args: &[Ty], value: Ty) -> Result<Rank, Memory> {
     })
 }
 
-fn signature(alloc: Global) -> Result<Sig, Memory> {
+pub fn signature(alloc: Global) -> Result<Sig, Memory> {
     let u = Ty::Of(U);
     let mut ranks = Vec::new(alloc);
     ranks.push(rank(alloc, &[u], u)?)?;
@@ -33,10 +33,15 @@ fn signature(alloc: Global) -> Result<Sig, Memory> {
 
 // `size` elements of U and one of V. p is true of 1 alone and r of 0 and 1 alone, g gives 0, and c is 1.
 fn interpretation(alloc: Global, size: u64, f: &[u64]) -> Result<Interp, Memory> {
+    with_pairs(alloc, size, f, &[0, 1, 1])
+}
+
+// The same, but for the exceptions of r.
+pub fn with_pairs(alloc: Global, size: u64, f: &[u64], r: &[u64]) -> Result<Interp, Memory> {
     let mut tables = Vec::new(alloc);
     tables.push(table(alloc, 0, 1, f)?)?;
     tables.push(table(alloc, 0, 1, &[1, 1])?)?;
-    tables.push(table(alloc, 0, 2, &[0, 1, 1])?)?;
+    tables.push(table(alloc, 0, 2, r)?)?;
     tables.push(table(alloc, 0, 1, &[])?)?;
     tables.push(table(alloc, 1, 0, &[])?)?;
     Ok(Interp {
@@ -49,7 +54,7 @@ fn constant(alloc: Global) -> Fterm {
     Fterm::App(SymId(4), Items::new(alloc))
 }
 
-fn apply(alloc: Global, symbol: usize, argument: Fterm) -> Result<Fterm, Memory> {
+pub fn apply(alloc: Global, symbol: usize, argument: Fterm) -> Result<Fterm, Memory> {
     let mut arguments = Vec::new(alloc);
     arguments.push(argument)?;
     Ok(Fterm::App(SymId(symbol), Items::from_vec(arguments)))
@@ -65,14 +70,14 @@ fn p(alloc: Global, argument: Fterm) -> Result<Formula, Memory> {
     Ok(Formula::Pred(SymId(1), Items::from_vec(arguments)))
 }
 
-fn r(alloc: Global, left: Fterm, right: Fterm) -> Result<Formula, Memory> {
+pub fn r(alloc: Global, left: Fterm, right: Fterm) -> Result<Formula, Memory> {
     let mut arguments = Vec::new(alloc);
     arguments.push(left)?;
     arguments.push(right)?;
     Ok(Formula::Pred(SymId(2), Items::from_vec(arguments)))
 }
 
-fn not(alloc: Global, body: Formula) -> Result<Formula, Memory> {
+pub fn not(alloc: Global, body: Formula) -> Result<Formula, Memory> {
     Ok(Formula::Not(Boxed::new(alloc, body)?))
 }
 
@@ -98,11 +103,11 @@ fn quantified(alloc: Global, all: bool, vars: &[SortId], body: Formula) -> Resul
     })
 }
 
-fn forall(alloc: Global, vars: &[SortId], body: Formula) -> Result<Formula, Memory> {
+pub fn forall(alloc: Global, vars: &[SortId], body: Formula) -> Result<Formula, Memory> {
     quantified(alloc, true, vars, body)
 }
 
-fn exists(alloc: Global, vars: &[SortId], body: Formula) -> Result<Formula, Memory> {
+pub fn exists(alloc: Global, vars: &[SortId], body: Formula) -> Result<Formula, Memory> {
     quantified(alloc, false, vars, body)
 }
 
@@ -283,6 +288,69 @@ fn finds_the_first_failing(rt: HostRuntime) -> Result<(), Fail> {
             assert_eq!(rt; falsity.assertion, 1, "formula {number}");
             assert_eq!(rt; falsity.tuple.as_slice(), tuple, "formula {number}");
         }
+    }
+    Ok(())
+}
+
+// One sort U with f from U to U, or with two constants of U.
+fn small_signature(alloc: Global, unary: bool) -> Result<Sig, Memory> {
+    let u = Ty::Of(U);
+    let mut ranks = Vec::new(alloc);
+    if unary {
+        ranks.push(rank(alloc, &[u], u)?)?;
+    } else {
+        ranks.push(rank(alloc, &[], u)?)?;
+        ranks.push(rank(alloc, &[], u)?)?;
+    }
+    Ok(Sig {
+        sorts: 1,
+        ranks: Items::from_vec(ranks),
+    })
+}
+
+// One element, so 0 is each value.
+fn one_element(alloc: Global, symbols: usize) -> Result<Interp, Memory> {
+    let mut tables = Vec::new(alloc);
+    for _symbol in 0..symbols {
+        tables.push(table(alloc, 0, 0, &[])?)?;
+    }
+    Ok(Interp {
+        sizes: Items::from_slice(alloc, &[1])?,
+        tables: Items::from_vec(tables),
+    })
+}
+
+// No element of U is a fixed point of f.
+fn moves_all(alloc: Global) -> Result<Formula, Memory> {
+    let fixed = Formula::Equal(f(alloc, Fterm::Var(0))?, Fterm::Var(0));
+    forall(alloc, &[U], not(alloc, fixed)?)
+}
+
+fn constants_differ(alloc: Global) -> Result<Formula, Memory> {
+    let first = Fterm::App(SymId(0), Items::new(alloc));
+    let second = Fterm::App(SymId(1), Items::new(alloc));
+    not(alloc, Formula::Equal(first, second))
+}
+
+fn small_assertion(alloc: Global, unary: bool) -> Result<Formula, Memory> {
+    if unary {
+        moves_all(alloc)
+    } else {
+        constants_differ(alloc)
+    }
+}
+
+#[test]
+fn fails_on_one_element(rt: HostRuntime) -> Result<(), Fail> {
+    let rows: [(bool, &[u64]); 2] = [(true, &[0]), (false, &[])];
+    for (unary, tuple) in rows {
+        let sig = small_signature(rt.alloc(), unary)?;
+        let interp = one_element(rt.alloc(), sig.ranks.len())?;
+        let assertions = [small_assertion(rt.alloc(), unary)?];
+        let found = falsity(rt.alloc(), &sig, &interp, &assertions)?.ok_or("they fit")?;
+        let falsity = found.ok_or("it fails")?;
+        assert_eq!(rt; falsity.assertion, 0);
+        assert_eq!(rt; falsity.tuple.as_slice(), tuple);
     }
     Ok(())
 }

@@ -1,4 +1,5 @@
-use Rattle.std.proofs.Common.{◌+◌, map}
+use Rattle.std.proofs.Common.{◌≡◌, ◌+◌, map, drop}
+use Rattle.fm_base.specs.Truth.{is_well_sorted, all_sorted}
 use Rattle.fm_truth.proofs.Weights.{total, formula_weight, term_weight}
 use Rattle.fm_truth.proofs.checked.+sorted.Given as goal
 
@@ -13,3 +14,6 @@ decreases-formulas_sorted l = 1 + total (map formula_weight l.formulas.now)
 
 abbrev pub decreases-terms_fit : goal.decreases-terms_fit
 decreases-terms_fit l = 1 + total (map term_weight l.terms.now)
+
+abbrev pub invariant-formulas_sorted-loop-formula : goal.invariant-formulas_sorted-loop-formula
+invariant-formulas_sorted-loop-formula l = all_sorted (map is_well_sorted (drop l.formula-index l.formulas)) l.sig l.scope ≡ all_sorted (map is_well_sorted l.formulas) l.sig l.scope

@@ -1,6 +1,9 @@
-use Rattle.std.proofs.Common.{◌≡◌, ℕ, ◌+◌, ◌*◌, ◌<◌, [], ◌∷◌, ◌++◌, length, map, take, drop}
+use Rattle.std.proofs.Common.{◌≡◌, ◌+◌, ◌++◌, map, take, drop}
 use Rattle.fm_base.specs.Interpretations.{reading_of}
-use Rattle.fm_base.specs.Truth.{truth, value, values, all_true, some_true, block}
+use Rattle.fm_base.specs.Truth.{truth, value, values, all_true, some_true}
+use Rattle.fm_truth.specs.Tuples.{if_any, tuple_of}
+use Rattle.fm_truth.proofs.Blocks.{Passed}
+use Rattle.fm_truth.proofs.Orders.{left}
 use Rattle.fm_truth.proofs.Weights.{total, formula_weight, term_weight}
 use Rattle.fm_truth.proofs.evaluate.+truth.Given as goal
 
@@ -23,10 +26,7 @@ abbrev pub decreases-some_hold : goal.decreases-some_hold
 decreases-some_hold l = 1 + total (map formula_weight l.formulas.now)
 
 abbrev pub decreases-block_holds : goal.decreases-block_holds
-decreases-block_holds l = 1 + (2 * length l.sorts.now + formula_weight l.body.now)
-
-abbrev pub decreases-element_holds : goal.decreases-element_holds
-decreases-element_holds l = 2 + (2 * length l.rest.now + formula_weight l.body.now)
+decreases-block_holds l = 1 + formula_weight l.body.now
 
 abbrev pub invariant-put_values-loop-i : goal.invariant-put_values-loop-i
 invariant-put_values-loop-i l = record {
@@ -48,9 +48,12 @@ invariant-some_hold-loop-formula l = record {
   same_args : take l.taken.args l.args ≡ take l.taken.args l.fn.args;
 }
 
-abbrev pub invariant-block_holds-loop-x : goal.invariant-block_holds-loop-x
-invariant-block_holds-loop-x l = record {
-  decided : (k : ℕ) → k < l.x → block (reading_of l.interp) l.all l.rest (λ inner. truth l.body (reading_of l.interp) inner) (take l.taken.vars l.fn.vars ++ k ∷ []) ≡ l.all;
+abbrev pub invariant-block_holds-loop-more : goal.invariant-block_holds-loop-more
+invariant-block_holds-loop-more l = record {
+  passed : Passed (reading_of l.interp) l.all l.sorts (λ inner. truth l.body (reading_of l.interp) inner) (take l.taken.vars l.fn.vars) (if_any l.more (tuple_of l.sorts l.taken.vars l.vars));
   same_vars : take l.taken.vars l.vars ≡ take l.taken.vars l.fn.vars;
   same_args : take l.taken.args l.args ≡ take l.taken.args l.fn.args;
 }
+
+abbrev pub decreases-block_holds-loop-more : goal.decreases-block_holds-loop-more
+decreases-block_holds-loop-more l = left (reading_of l.interp) l.sorts (if_any l.more (tuple_of l.sorts l.taken.vars l.vars))
