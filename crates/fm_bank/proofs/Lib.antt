@@ -1,2 +1,14 @@
-pub mod Grounding
+pub mod Atoms
+pub mod Closures
+pub mod Growing
+pub mod Holding
+pub mod InstanceTruth
+pub mod Instancing
+pub mod Keys
+pub mod Lengths
+pub mod Meanings
+pub mod Once
+pub mod Places
+pub mod Sorts
+pub mod Steps
 pub mod Values

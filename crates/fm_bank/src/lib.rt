@@ -2,7 +2,22 @@
 #![tactic(auto)]
 
 mod atom;
+mod bank;
 mod clause;
+mod growth;
+mod key;
+#[cfg(test)]
+mod large_tests;
+mod laws;
+mod literal;
+mod numbering;
+mod sorted;
+#[cfg(test)]
+mod tests;
+mod typing;
 
 pub use atom::Atom;
+pub use bank::Bank;
 pub use clause::{Clause, ClauseSet, Plit};
+pub use laws::{closure_is_sound, instances_are_true, more_follows};
+pub use literal::Literal;

@@ -1,22 +1,21 @@
--- Every good clause line holds in every interpretation of the signature, whatever the terms' values are. So the
--- claim of a good block holds.
-use Rattle.std.proofs.Common.{◌≡◌, ◌≢◌, ℕ, zero, suc, ◌+◌, ◌<◌, ◌≤◌, inl, inr, Bool, true, false, not, List, [], ◌∷◌, ◌++◌, length, Some, refl, sym, subst, arith, add-one}
+-- Every good clause line holds in every interpretation that satisfies the clauses of the table, each term having its value
+-- there. So the claim of a good block holds.
+use Rattle.std.proofs.Common.{◌≡◌, ◌≢◌, ℕ, zero, suc, ◌+◌, ◌<◌, ◌≤◌, inl, inr, Bool, true, false, not, ◌||◌, List, [], ◌∷◌, ◌++◌, length, map, Some, refl, sym, subst, ◌∙◌, arith, add-one}
 use Rattle.std.specs.Prelude.{nat_le, slice_get}
 use Rattle.std.proofs.lemmas.Bool.{or_cases, or_left, or_right, cases_Bool, leb-false, lt-leb, not_from_true, not_from_false, not-true, both_ways, false≢true}
 use Rattle.fm_base.specs.Interpretations.{Reading, IsInterpretation}
 use Rattle.fm_base.specs.Models.{sum_below, sum_of_sizes, IsModel}
 use Rattle.fm_base.specs.declared.signature.Sig.{Sig}
 use Rattle.fm_bank.specs.declared.atom.Atom.{Atom}
-use Rattle.fm_base.specs.Models.{IsElements}
-use Rattle.fm_base.specs.declared.ids.SortId.{SortId}
-use Rattle.fm_bank.proofs.Grounding.{no_literals, no_variables}
-use Rattle.fm_bank.specs.Clauses.{ClauseHolds, Satisfies, lits_true}
-use Rattle.fm_bank.specs.Instances.{ground_literals}
+use Rattle.fm_bank.proofs.InstanceTruth.{instances_true}
+use Rattle.fm_bank.specs.Meaning.{literals_true}
+use Rattle.fm_bank.specs.Terms.{Term, are_terms, value_of}
+use Rattle.fm_bank.specs.Clauses.{ClauseHolds, Satisfies}
+use Rattle.fm_bank.specs.declared.literal.Literal.{Literal}
 use Rattle.fm_bank.specs.declared.clause.Clause.{Clause as FirstOrderClause}
-use Rattle.fm_bank.specs.declared.clause.Plit.{Plit}
 use Rattle.fm_bank.specs.Ground.{atom_true, lit_true}
-use Rattle.fm_cert.specs.Lines.{Problem, Clause, Has, opposite, Resolves, Chain, above, sum_clause, total_above, numbers, IsGoodLine, AreGoodLines, clause_true}
-use Rattle.fm_cert.specs.Claims.{HasTable, ShowsLeast, IsGoodEnding, IsGoodBlock, ClaimHolds}
+use Rattle.fm_cert.specs.Lines.{Problem, Clause, Has, opposite, Resolves, Chain, above, sum_clause, total_above, numbers, ground, IsGoodLine, AreGoodLines, clause_true}
+use Rattle.fm_cert.specs.Claims.{HasTable, ShowsLeast, IsGoodEnding, IsGoodBlock, ClaimHolds, GoodLinesHold}
 use Rattle.fm_cert.specs.declared.block.CertLit.{CertLit}
 use Rattle.fm_cert.specs.declared.block.Block.{Block}
 use Rattle.fm_cert.specs.declared.block.Claim.{Claim}
@@ -99,38 +98,46 @@ sum_true sig m v s (k ∷ ks) n acc small lt all =
           or_right (nat_le (m.size s) k) (clause_true sig m v (sum_clause (s + 1) ks n)) (sum_true sig m v (s + 1) ks n (acc + (k + 1)) (rw sum_below-more (omega arith)) (omega arith) (omega arith))
     ]
 
--- an instance without terms is one of the clause without literals, which nothing satisfies
-pub instance_true : (p : Problem) (m : Reading) (v : ℕ → ℕ) (cs : List FirstOrderClause) (i : ℕ) (input : FirstOrderClause) → Satisfies m cs → slice_get cs i ≡ Some input → ClauseHolds m input
-instance_true p m v [] i input h e = cc
-instance_true p m v (x ∷ cs) zero input h e = let same : x ≡ input = cc e in subst (λ (c : FirstOrderClause). ClauseHolds m c) same h.0
-instance_true p m v (x ∷ cs) (suc i) input h e = instance_true p m v cs i input h.1 e
+-- a clause of the table holds where all do
+pub clause_holds : (m : Reading) (cs : List FirstOrderClause) (i : ℕ) (input : FirstOrderClause) → Satisfies m cs → slice_get cs i ≡ Some input → ClauseHolds m input
+clause_holds m [] i input h e = cc
+clause_holds m (x ∷ cs) zero input h e = let same : x ≡ input = cc e in subst (λ (c : FirstOrderClause). ClauseHolds m c) same h.0
+clause_holds m (x ∷ cs) (suc i) input h e = clause_holds m cs i input h.1 e
 
-pub line_true : (p : Problem) (m : Reading) (v : ℕ → ℕ) → IsInterpretation p.symbols m → Satisfies m p.clauses → (earlier : List Clause) (line : Line) (c : Clause) → AllTrue p.symbols m v earlier → IsGoodLine p [] earlier line c → clause_true p.symbols m v c ≡ true
-line_true p m v is sat earlier (Line.Instance i terms) c h (input, literals, found, substitution, instance, made) =
-    let none = no_variables p.symbols input.vars (numbers terms) substitution in
-    let instance' : ground_literals [] [] input.lits ≡ Some literals = subst (λ (ns : List ℕ). ground_literals [] ns input.lits ≡ Some literals) none.1 instance in
-    let empty = no_literals input.lits literals instance' in
-    let holds = instance_true p m v p.clauses i input sat found in
-    let elements : IsElements m input.vars [] = subst (λ (vs : List SortId). IsElements m vs []) (sym none.0) tt in
-    let false_too : lits_true m [] [] ≡ true = subst (λ (ls : List Plit). lits_true m [] ls ≡ true) empty.0 (holds [] elements) in
-    absurd (false≢true false_too)
-line_true p m v is sat earlier (Line.Sum n ks) c h (long, big, made) = subst (λ (y : Clause). clause_true p.symbols m v y ≡ true) (sym made) (sum_true p.symbols m v 0 ks n 0 (omega arith) (omega arith) (omega arith))
-line_true p m v is sat earlier (Line.OrderZero s) c h (within, made) =
-    let some : 1 ≤ m.size s.0 = is.inhabited s.0 within in
-    subst (λ (y : Clause). clause_true p.symbols m v y ≡ true) (sym made) (or_left (not (nat_le (m.size s.0) 0)) false (not_from_false (nat_le (m.size s.0) 0) (lt-leb (m.size s.0) 0 (omega arith))))
-line_true p m v is sat earlier (Line.Resolution first steps) c h (some, (start, found, chain)) = chain_true p.symbols m v earlier start steps c h (AllTrue-at p.symbols m v earlier first start h found) chain
+-- the literals of a line are those of the instance
+same_literals : (sig : Sig) (m : Reading) (terms : List Term) (ls : List Literal) → clause_true sig m (value_of m terms) (map ground ls) ≡ literals_true sig m terms ls
+same_literals sig m terms [] = refl
+same_literals sig m terms (l ∷ ls) = λ i. lit_true sig m (value_of m terms) l.positive l.atom || same_literals sig m terms ls i
 
-pub lines_true : (p : Problem) (m : Reading) (v : ℕ → ℕ) → IsInterpretation p.symbols m → Satisfies m p.clauses → (earlier : List Clause) (lines : List Line) (clauses : List Clause) → AllTrue p.symbols m v earlier → AreGoodLines p [] earlier lines clauses → AllTrue p.symbols m v clauses
-lines_true p m v is sat earlier [] clauses h same = subst (λ (cs : List Clause). AllTrue p.symbols m v cs) (sym same) h
-lines_true p m v is sat earlier (line ∷ lines) clauses h (c, good, rest) = lines_true p m v is sat (earlier ++ c ∷ []) lines clauses (AllTrue-push p.symbols m v earlier c h (line_true p m v is sat earlier line c h good)) rest
+-- an interpretation of the table's symbols that satisfies its clauses, and terms over them
+pub record Holds (p : Problem) (m : Reading) (terms : List Term) : Type 0 where
+  pub interprets : IsInterpretation p.symbols m
+  pub satisfies : Satisfies m p.clauses
+  pub good : are_terms p.symbols terms ≡ true
 
-abbrev pub no_values : ℕ → ℕ
-no_values t = 0
+pub line_true : (p : Problem) (m : Reading) (terms : List Term) → Holds p m terms → (earlier : List Clause) (line : Line) (c : Clause) → AllTrue p.symbols m (value_of m terms) earlier → IsGoodLine p terms earlier line c → clause_true p.symbols m (value_of m terms) c ≡ true
+line_true p m terms is earlier (Line.Instance i subst') c h (input, literals, found, substitution, instance, made) =
+    let holds = clause_holds m p.clauses i input is.satisfies found in
+    let here = instances_true p.symbols m terms input (numbers subst') literals is.interprets is.good substitution instance holds in
+    subst (λ (y : Clause). clause_true p.symbols m (value_of m terms) y ≡ true) (sym made) (same_literals p.symbols m terms literals ∙ here.whole)
+line_true p m terms is earlier (Line.Sum n ks) c h (long, big, made) = subst (λ (y : Clause). clause_true p.symbols m (value_of m terms) y ≡ true) (sym made) (sum_true p.symbols m (value_of m terms) 0 ks n 0 (omega arith) (omega arith) (omega arith))
+line_true p m terms is earlier (Line.OrderZero s) c h (within, made) =
+    let some : 1 ≤ m.size s.0 = is.interprets.inhabited s.0 within in
+    subst (λ (y : Clause). clause_true p.symbols m (value_of m terms) y ≡ true) (sym made) (or_left (not (nat_le (m.size s.0) 0)) false (not_from_false (nat_le (m.size s.0) 0) (lt-leb (m.size s.0) 0 (omega arith))))
+line_true p m terms is earlier (Line.Resolution first steps) c h (some, (start, found, chain)) = chain_true p.symbols m (value_of m terms) earlier start steps c h (AllTrue-at p.symbols m (value_of m terms) earlier first start h found) chain
+
+pub lines_true : (p : Problem) (m : Reading) (terms : List Term) → Holds p m terms → (earlier : List Clause) (lines : List Line) (clauses : List Clause) → AllTrue p.symbols m (value_of m terms) earlier → AreGoodLines p terms earlier lines clauses → AllTrue p.symbols m (value_of m terms) clauses
+lines_true p m terms is earlier [] clauses h same = subst (λ (cs : List Clause). AllTrue p.symbols m (value_of m terms) cs) (sym same) h
+lines_true p m terms is earlier (line ∷ lines) clauses h (c, good, rest) = lines_true p m terms is (earlier ++ c ∷ []) lines clauses (AllTrue-push p.symbols m (value_of m terms) earlier c h (line_true p m terms is earlier line c h good)) rest
+
+pub good_lines : GoodLinesHold
+good_lines p m terms lines clauses i clause is good sat lines_good at =
+    AllTrue-at p.symbols m (value_of m terms) clauses i clause (lines_true p m terms (record { interprets = is; satisfies = sat; good = good }) [] lines clauses tt lines_good) at
 
 pub least : (p : Problem) (m : Reading) → IsInterpretation p.symbols m → Satisfies m p.clauses → (lines : List Line) (clauses : List Clause) (n : ℕ) → AreGoodLines p [] [] lines clauses → ShowsLeast clauses n → n ≤ sum_of_sizes p.symbols m
 least p m is sat lines clauses zero good shows = omega arith
 least p m is sat lines clauses (suc n) good shows =
-    let holds = AllTrue-at p.symbols m no_values clauses shows.0 (above n ∷ []) (lines_true p m no_values is sat [] lines clauses tt good) shows.1 in
+    let holds = good_lines p m [] lines clauses shows.0 (above n ∷ []) is refl sat good shows.1 in
     elim (or_cases (not (nat_le (sum_of_sizes p.symbols m) n)) false holds) [
       | inl t ↦ let big : n < sum_of_sizes p.symbols m = leb-false (sum_of_sizes p.symbols m) n (not-true (nat_le (sum_of_sizes p.symbols m) n) t) in omega arith
       | inr f ↦ absurd (false≢true f)
@@ -145,7 +152,7 @@ least_model p table m is lines clauses n good shows =
 pub ending_holds : (p : Problem) → HasTable p → (lines : List Line) (clauses : List Clause) (claim : Claim) → AreGoodLines p [] [] lines clauses → IsGoodEnding p clauses claim → ClaimHolds p claim
 ending_holds p table lines clauses Claim.Unsat good (i, e) = λ m is.
     let expansion = table.expands m is in
-    false≢true (AllTrue-at p.symbols (record { size = m.size; at = expansion.0 }) no_values clauses i [] (lines_true p (record { size = m.size; at = expansion.0 }) no_values expansion.1 expansion.2 [] lines clauses tt good) e)
+    false≢true (good_lines p (record { size = m.size; at = expansion.0 }) [] lines clauses i [] expansion.1 refl expansion.2 good e)
 ending_holds p table lines clauses (Claim.Sat sum model) good (shows, fit, is, total) = (is, total, λ m other. least_model p table m other lines clauses sum good shows)
 ending_holds p table lines clauses (Claim.Unknown instances decisions) good ending = tt
 

@@ -3,6 +3,7 @@ use Rattle.std.specs.Prelude.{◌≡◌, ℕ, zero, suc, ◌+◌, ◌≤◌, tru
 use Rattle.fm_base.specs.Interpretations.{Reading, IsInterpretation, reading_of, is_fit}
 use Rattle.fm_base.specs.Models.{IsModel, sum_of_sizes}
 use Rattle.fm_bank.specs.Clauses.{Satisfies}
+use Rattle.fm_bank.specs.Terms.{Term, are_terms, value_of}
 use Rattle.fm_cert.specs.Lines.{Clause, Problem, AreGoodLines, above, clause_true}
 use Rattle.fm_cert.specs.declared.block.Line.{Line}
 use Rattle.fm_cert.specs.declared.block.Block.{Block}
@@ -53,7 +54,7 @@ IsGoodCertificate problems blocks = AreGoodFrom 0 problems blocks
 abbrev pub BlocksAreSound : Type 0
 BlocksAreSound = (p : Problem) (block : Block) → HasTable p → IsGoodBlock p block → ClaimHolds p block.claim
 
--- every clause of good lines holds in every interpretation of the table's symbols that satisfies its clauses, whatever the
--- terms' values are
+-- every clause of good lines over a list of terms holds in every interpretation of the table's symbols that satisfies its
+-- clauses, each term having its value there
 abbrev pub GoodLinesHold : Type 0
-GoodLinesHold = (p : Problem) (m : Reading) (value : ℕ → ℕ) (lines : List Line) (clauses : List Clause) (i : ℕ) (clause : Clause) → IsInterpretation p.symbols m → Satisfies m p.clauses → AreGoodLines p [] [] lines clauses → slice_get clauses i ≡ Some clause → clause_true p.symbols m value clause ≡ true
+GoodLinesHold = (p : Problem) (m : Reading) (terms : List Term) (lines : List Line) (clauses : List Clause) (i : ℕ) (clause : Clause) → IsInterpretation p.symbols m → are_terms p.symbols terms ≡ true → Satisfies m p.clauses → AreGoodLines p terms [] lines clauses → slice_get clauses i ≡ Some clause → clause_true p.symbols m (value_of m terms) clause ≡ true

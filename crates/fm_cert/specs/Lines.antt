@@ -7,7 +7,8 @@ use Rattle.fm_base.specs.declared.formula.Formula.{Formula}
 use Rattle.fm_base.specs.declared.ids.TermId.{TermId}
 use Rattle.fm_base.specs.declared.signature.Sig.{Sig}
 use Rattle.fm_bank.specs.Ground.{lit_true}
-use Rattle.fm_bank.specs.Instances.{Literal, ground_literals, is_substitution}
+use Rattle.fm_bank.specs.Instances.{ground_literals, is_substitution}
+use Rattle.fm_bank.specs.declared.literal.Literal.{Literal}
 use Rattle.fm_bank.specs.Terms.{Term}
 use Rattle.fm_bank.specs.declared.clause.Clause.{Clause as FirstOrderClause}
 use Rattle.fm_bank.specs.declared.atom.Atom.{Atom}
