@@ -1,0 +1,15 @@
+//! Ground congruence closure over the terms of a bank: what follows from equations between them.
+#![tactic(auto)]
+
+mod classes;
+mod closure;
+mod equations;
+mod facts;
+mod object;
+mod objects;
+mod scan;
+#[cfg(test)]
+mod tests;
+
+pub use closure::{clash_in, equal_in};
+pub use equations::Equations;
