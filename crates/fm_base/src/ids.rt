@@ -1,3 +1,6 @@
+ghost use Rattle.std.specs.Prelude.{◌≡◌};
+ghost use Rattle.fm_base.specs.Resolution.{opposite};
+
 use std::alloc::{AllocError, AllocFailed};
 
 /// Want of memory, which is merged with no other answer.
@@ -37,6 +40,18 @@ pub struct AtomId(pub usize);
 pub struct Lit {
     pub atom: AtomId,
     pub positive: bool,
+}
+
+impl Lit {
+    /// The same atom with the other sign.
+    pub fn opposite(self) -> Lit
+        ensures { result ≡ opposite self }
+    {
+        Lit {
+            atom: self.atom,
+            positive: !self.positive,
+        }
+    }
 }
 
 /// The four readers of the trail, in the order in which they are asked.
