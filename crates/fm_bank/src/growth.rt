@@ -1,7 +1,7 @@
-ghost use Rattle.std.specs.Prelude.{◌≡◌, [], map, IfOk, OnOk, OnErr};
+ghost use Rattle.std.specs.Prelude.{◌≡◌, [], IfOk, OnOk, OnErr};
 ghost use Rattle.fm_bank.specs.Terms.{application, numbers};
 ghost use Rattle.fm_bank.specs.Instances.{equality as equality_of};
-ghost use Rattle.fm_bank.specs.Interning.{IsBetween, all_grown, applied, atom_grown, first_places, grown, literals_grown, term_number, with_literal, with_term};
+ghost use Rattle.fm_bank.specs.Interning.{IsUnderway, application_grown, atom_grown, first_places, grown, literals_grown, term_number, terms_grown, with_literal, with_term};
 
 use crate::atom::Atom;
 use crate::clause::Plit;
@@ -31,7 +31,7 @@ fn ground(
     subst: &[TermId],
 ) -> Result<TermId, Memory>
     ensures ok { IfOk result (λ t. grown term.now (numbers subst.now) terms.old.keys ≡ (terms.new.keys, t.0)) }
-    ensures err { OnErr result (IsBetween terms.old.keys terms.new.keys (grown term.now (numbers subst.now) terms.old.keys).0) }
+    ensures err { OnErr result (IsUnderway (grown term.now (numbers subst.now)) terms.old.keys terms.new.keys) }
 {
     match term {
         Pterm::Var(variable) => Ok(subst.get(*variable).copied().unwrap_or(TermId(0))),
@@ -54,8 +54,8 @@ fn ground_application(
     args: &[Pterm],
     subst: &[TermId],
 ) -> Result<TermId, Memory>
-    ensures ok { IfOk result (λ t. applied symbol.0 (all_grown (map grown args.now) (numbers subst.now) terms.old.keys) ≡ (terms.new.keys, t.0)) }
-    ensures err { OnErr result (IsBetween terms.old.keys terms.new.keys (applied symbol.0 (all_grown (map grown args.now) (numbers subst.now) terms.old.keys)).0) }
+    ensures ok { IfOk result (λ t. application_grown symbol.0 args.now (numbers subst.now) terms.old.keys ≡ (terms.new.keys, t.0)) }
+    ensures err { OnErr result (IsUnderway (application_grown symbol.0 args.now (numbers subst.now)) terms.old.keys terms.new.keys) }
 {
     let args = ground_all(alloc, terms, args, subst)?;
     put(terms, symbol, args)
@@ -68,8 +68,8 @@ fn ground_all(
     args: &[Pterm],
     subst: &[TermId],
 ) -> Result<Args, Memory>
-    ensures ok { IfOk result (λ ts. all_grown (map grown args.now) (numbers subst.now) terms.old.keys ≡ (terms.new.keys, numbers ts.items)) }
-    ensures err { OnErr result (IsBetween terms.old.keys terms.new.keys (all_grown (map grown args.now) (numbers subst.now) terms.old.keys).0) }
+    ensures ok { IfOk result (λ ts. terms_grown args.now (numbers subst.now) terms.old.keys ≡ (terms.new.keys, numbers ts.items)) }
+    ensures err { OnErr result (IsUnderway (terms_grown args.now (numbers subst.now)) terms.old.keys terms.new.keys) }
 {
     let mut ids = SmallVec::new(alloc);
     for arg in args {
@@ -86,7 +86,7 @@ fn ground_atom(
     subst: &[TermId],
 ) -> Result<Atom, Memory>
     ensures ok { IfOk result (λ a. atom_grown atom.now (numbers subst.now) terms.old.keys ≡ (terms.new.keys, a)) }
-    ensures err { OnErr result (IsBetween terms.old.keys terms.new.keys (atom_grown atom.now (numbers subst.now) terms.old.keys).0) }
+    ensures err { OnErr result (IsUnderway (atom_grown atom.now (numbers subst.now)) terms.old.keys terms.new.keys) }
 {
     match atom {
         Patom::Pred(symbol, args) => {
@@ -102,7 +102,7 @@ fn ground_atom(
 }
 
 // An equality has the smaller number first.
-fn equality(left: TermId, right: TermId) -> Atom
+pub(crate) fn equality(left: TermId, right: TermId) -> Atom
     ensures { result ≡ equality_of left.0 right.0 }
 {
     if left.0 <= right.0 {
@@ -121,7 +121,7 @@ pub(crate) fn ground_literals(
 ) -> Result<IndexSet<Literal>, Memory>
     ensures terms { OnOk result (terms.new.keys ≡ (literals_grown lits.now (numbers subst.now) terms.old.keys).0) }
     ensures literals { IfOk result (λ ls. ls.keys ≡ first_places [] (literals_grown lits.now (numbers subst.now) terms.old.keys).1) }
-    ensures err { OnErr result (IsBetween terms.old.keys terms.new.keys (literals_grown lits.now (numbers subst.now) terms.old.keys).0) }
+    ensures err { OnErr result (IsUnderway (literals_grown lits.now (numbers subst.now)) terms.old.keys terms.new.keys) }
 {
     let mut literals = IndexSet::new(alloc);
     for lit in lits {

@@ -1,17 +1,16 @@
-ghost use Rattle.std.specs.Prelude.{◌≡◌, ◌<◌, ◌↔◌, ℕ, true, length, map, IfOk, IsTrue};
+ghost use Rattle.std.specs.Prelude.{◌≡◌, ◌≤◌, ◌↔◌, length, IfOk, IsTrue};
 ghost use Rattle.std.specs.List.{All};
-ghost use Rattle.fm_bank.specs.Closure.{Clashes, Follows, IsClosed, object, shapes_of};
-ghost use Rattle.fm_bank.specs.Terms.{numbers};
-ghost use Rattle.fm_base.specs.declared.ids.TermId.{TermId};
-ghost use Rattle.fm_closure.specs.Classes.{AreSound, AreThere, by_class, is_there, number_of, numbers_of};
-ghost use Rattle.fm_closure.specs.Facts.{facts_in};
+ghost use Rattle.fm_bank.specs.Closure.{object};
+ghost use Rattle.fm_bank.specs.Terms.{AreTerms};
+ghost use Rattle.fm_closure.specs.Classes.{AreAllThere, AreClosedOver, AreSoundOver, AreThere, number_of, total};
+ghost use Rattle.fm_closure.specs.Facts.{ClashesOver, FollowsOver};
 
 use crate::classes::{join, same_class, singletons};
 use crate::equations::Equations;
 use crate::facts::facts_of;
 use crate::object::Object;
 use crate::objects::objects_of;
-use crate::scan::open;
+use crate::scan::{unjoined, unjoined_with};
 use fm_bank::Bank;
 use fm_base::{Memory, TermId};
 use indexmap::IndexSet;
@@ -20,8 +19,10 @@ use std::alloc::Global;
 /// Whether the two terms follow equal from the equations, by congruence over the terms of the list alone.
 ///
 /// This is congruence closure by its definition (Nelson and Oppen; Downey, Sethi and Tarjan), on which the meaning of
-/// evidence for equalities rests. So it is plain, and slow on purpose: after each join it looks again through all facts
-/// and all pairs of terms of the list. Its memory grows with the list and the equations, and not with the bank.
+/// evidence for equalities rests. So it is plain: it looks through all facts and all pairs of terms of the list, joins
+/// what it finds, and begins again until it finds nothing. After each join it goes once over the terms, so that a chain
+/// of congruences is joined at one go where arguments stand before their terms: a list in ascending order is fastest.
+/// Its memory grows with the list and the equations, and not with the bank.
 ///
 /// The list may have a term without its arguments. The equations and the question may name terms that it lacks: those
 /// are joined by facts, and by no congruence. The one refusal is want of memory.
@@ -33,8 +34,8 @@ pub fn equal_in(
     a: TermId,
     b: TermId,
 ) -> Result<bool, Memory>
-    requires over { All (λ (t : TermId). t.0 < length bank.now.terms) over.now }
-    ensures { IfOk result (λ answer. IsTrue answer ↔ Follows (shapes_of bank.now.terms (numbers over.now)) (facts_in eqs.now) (object a.0) (object b.0)) }
+    requires over { AreTerms bank.now.terms over.now }
+    ensures { IfOk result (λ answer. IsTrue answer ↔ FollowsOver bank.now.terms over.now eqs.now (object a.0) (object b.0)) }
 {
     follows(alloc, bank, eqs, over, Object::Term(a), Object::Term(b))
 }
@@ -47,8 +48,8 @@ pub fn clash_in(
     eqs: &Equations,
     over: &[TermId],
 ) -> Result<bool, Memory>
-    requires over { All (λ (t : TermId). t.0 < length bank.now.terms) over.now }
-    ensures { IfOk result (λ answer. IsTrue answer ↔ Clashes (shapes_of bank.now.terms (numbers over.now)) (facts_in eqs.now)) }
+    requires over { AreTerms bank.now.terms over.now }
+    ensures { IfOk result (λ answer. IsTrue answer ↔ ClashesOver bank.now.terms over.now eqs.now) }
 {
     follows(alloc, bank, eqs, over, Object::Yes, Object::No)
 }
@@ -62,8 +63,8 @@ fn follows(
     x: Object,
     y: Object,
 ) -> Result<bool, Memory>
-    requires over { All (λ (t : TermId). t.0 < length bank.now.terms) over.now }
-    ensures { IfOk result (λ answer. IsTrue answer ↔ Follows (shapes_of bank.now.terms (numbers over.now)) (facts_in eqs.now) (number_of x) (number_of y)) }
+    requires over { AreTerms bank.now.terms over.now }
+    ensures { IfOk result (λ answer. IsTrue answer ↔ FollowsOver bank.now.terms over.now eqs.now (number_of x) (number_of y)) }
 {
     let facts = facts_of(alloc, eqs)?;
     let objects = objects_of(alloc, over, facts.as_slice())?;
@@ -79,19 +80,19 @@ fn closed_classes(
     over: &[TermId],
     facts: &[(Object, Object)],
 ) -> Result<Vec<usize>, Memory>
-    requires over { All (λ (t : TermId). t.0 < length bank.now.terms) over.now }
-    requires terms { All (λ (t : TermId). is_there objects.now.keys (object t.0) ≡ true) over.now }
+    requires over { AreTerms bank.now.terms over.now }
+    requires terms { AreAllThere objects.now.keys over.now }
     requires sides { All (AreThere objects.now.keys) facts.now }
-    ensures sound { IfOk result (λ classes. AreSound (shapes_of bank.now.terms (numbers over.now)) (map numbers_of facts.now) objects.now.keys classes.items) }
-    ensures closed { IfOk result (λ classes. IsClosed (shapes_of bank.now.terms (numbers over.now)) (map numbers_of facts.now) (by_class objects.now.keys classes.items)) }
+    ensures sound { IfOk result (λ classes. AreSoundOver bank.now.terms over.now facts.now objects.now.keys classes.items) }
+    ensures closed { IfOk result (λ classes. AreClosedOver bank.now.terms over.now facts.now objects.now.keys classes.items) }
 {
     let mut classes = singletons(alloc, objects.len())?;
-    close(bank, objects, classes.as_mut_slice(), over, facts);
+    saturate(bank, objects, classes.as_mut_slice(), over, facts);
     Ok(classes)
 }
 
-// Joins classes until nothing is open.
-fn close(
+// Joins classes until nothing is left unjoined.
+fn saturate(
     bank: &Bank,
     objects: &IndexSet<Object>,
     classes: &mut [usize],
@@ -99,14 +100,38 @@ fn close(
     facts: &[(Object, Object)],
 )
     requires whole { length classes.old ≡ length objects.now.keys }
-    requires over { All (λ (t : TermId). t.0 < length bank.now.terms) over.now }
-    requires terms { All (λ (t : TermId). is_there objects.now.keys (object t.0) ≡ true) over.now }
+    requires over { AreTerms bank.now.terms over.now }
+    requires terms { AreAllThere objects.now.keys over.now }
     requires sides { All (AreThere objects.now.keys) facts.now }
-    requires sound { AreSound (shapes_of bank.now.terms (numbers over.now)) (map numbers_of facts.now) objects.now.keys classes.old }
-    ensures sound { AreSound (shapes_of bank.now.terms (numbers over.now)) (map numbers_of facts.now) objects.now.keys classes.new }
-    ensures closed { IsClosed (shapes_of bank.now.terms (numbers over.now)) (map numbers_of facts.now) (by_class objects.now.keys classes.new) }
+    requires sound { AreSoundOver bank.now.terms over.now facts.now objects.now.keys classes.old }
+    ensures sound { AreSoundOver bank.now.terms over.now facts.now objects.now.keys classes.new }
+    ensures closed { AreClosedOver bank.now.terms over.now facts.now objects.now.keys classes.new }
 {
-    while let Some((c, d)) = open(bank, objects, classes, over, facts) {
+    while let Some((c, d)) = unjoined(bank, objects, classes, over, facts) {
         join(classes, c, d);
+        sweep(bank, objects, classes, over, facts);
+    }
+}
+
+// Goes once over the terms, and joins each with one that is congruent to it.
+fn sweep(
+    bank: &Bank,
+    objects: &IndexSet<Object>,
+    classes: &mut [usize],
+    over: &[TermId],
+    facts: &[(Object, Object)],
+)
+    requires whole { length classes.old ≡ length objects.now.keys }
+    requires over { AreTerms bank.now.terms over.now }
+    requires terms { AreAllThere objects.now.keys over.now }
+    requires sound { AreSoundOver bank.now.terms over.now facts.now objects.now.keys classes.old }
+    ensures whole { length classes.new ≡ length objects.now.keys }
+    ensures sound { AreSoundOver bank.now.terms over.now facts.now objects.now.keys classes.new }
+    ensures falls { total classes.new ≤ total classes.old }
+{
+    for a in over {
+        if let Some((c, d)) = unjoined_with(bank, objects, classes, over, *a) {
+            join(classes, c, d);
+        }
     }
 }

@@ -5,6 +5,8 @@ mod classes;
 mod closure;
 mod equations;
 mod facts;
+#[cfg(test)]
+mod large_tests;
 mod object;
 mod objects;
 mod scan;
