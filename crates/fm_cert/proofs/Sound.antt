@@ -1,6 +1,6 @@
 -- Every good clause line holds in every interpretation that satisfies the clauses of the table, each term having its value
 -- there. So the claim of a good block holds.
-use Rattle.std.proofs.Common.{◌≡◌, ◌≢◌, ℕ, zero, suc, ◌+◌, ◌<◌, ◌≤◌, inl, inr, Bool, true, false, not, ◌||◌, List, [], ◌∷◌, ◌++◌, length, map, Some, refl, sym, subst, ◌∙◌, arith, add-one}
+use Rattle.std.proofs.Common.{◌≡◌, ◌≢◌, ℕ, zero, suc, ◌+◌, ◌<◌, ◌≤◌, inl, inr, Bool, true, false, not, ◌||◌, List, [], ◌∷◌, ◌++◌, length, Some, refl, sym, subst, arith, add-one}
 use Rattle.std.specs.Prelude.{nat_le, slice_get}
 use Rattle.std.proofs.lemmas.Bool.{or_cases, or_left, or_right, cases_Bool, leb-false, lt-leb, not_from_true, not_from_false, not-true, both_ways, false≢true}
 use Rattle.fm_base.specs.Interpretations.{Reading, IsInterpretation}
@@ -8,23 +8,21 @@ use Rattle.fm_base.specs.Models.{sum_below, sum_of_sizes, IsModel}
 use Rattle.fm_base.specs.declared.signature.Sig.{Sig}
 use Rattle.fm_bank.specs.declared.atom.Atom.{Atom}
 use Rattle.fm_bank.proofs.InstanceTruth.{instances_true}
-use Rattle.fm_bank.specs.Meaning.{literals_true}
-use Rattle.fm_bank.specs.Terms.{Term, are_terms, value_of}
+use Rattle.fm_bank.specs.Terms.{Term, are_terms, numbers, value_of}
 use Rattle.fm_bank.specs.Clauses.{ClauseHolds, Satisfies}
 use Rattle.fm_bank.specs.declared.literal.Literal.{Literal}
 use Rattle.fm_bank.specs.declared.clause.Clause.{Clause as FirstOrderClause}
-use Rattle.fm_bank.specs.Ground.{atom_true, lit_true}
-use Rattle.fm_cert.specs.Lines.{Problem, Clause, Has, opposite, Resolves, Chain, above, sum_clause, total_above, numbers, ground, IsGoodLine, AreGoodLines, clause_true}
+use Rattle.fm_bank.specs.Ground.{atom_true, clause_true, lit_true}
+use Rattle.fm_cert.specs.Lines.{Problem, Clause, Has, opposite, Resolves, Chain, above, sum_clause, total_above, IsGoodLine, AreGoodLines}
 use Rattle.fm_cert.specs.Claims.{HasTable, ShowsLeast, IsGoodEnding, IsGoodBlock, ClaimHolds, GoodLinesHold}
-use Rattle.fm_cert.specs.declared.block.CertLit.{CertLit}
 use Rattle.fm_cert.specs.declared.block.Block.{Block}
 use Rattle.fm_cert.specs.declared.block.Claim.{Claim}
 use Rattle.fm_cert.specs.declared.block.Line.{Line}
 
-abbrev pub is_true : Sig → Reading → (ℕ → ℕ) → CertLit → Bool
+abbrev pub is_true : Sig → Reading → (ℕ → ℕ) → Literal → Bool
 is_true sig m v l = lit_true sig m v l.positive l.atom
 
-pub true_member : (sig : Sig) (m : Reading) (v : ℕ → ℕ) (c : Clause) → clause_true sig m v c ≡ true → (k : CertLit) × Has c k × (is_true sig m v k ≡ true)
+pub true_member : (sig : Sig) (m : Reading) (v : ℕ → ℕ) (c : Clause) → clause_true sig m v c ≡ true → (k : Literal) × Has c k × (is_true sig m v k ≡ true)
 true_member sig m v [] e = absurd (false≢true e)
 true_member sig m v (k ∷ ks) e =
     elim (or_cases (is_true sig m v k) (clause_true sig m v ks) e) [
@@ -32,11 +30,11 @@ true_member sig m v (k ∷ ks) e =
       | inr h ↦ let rest = true_member sig m v ks h in (rest.0, inr rest.1, rest.2)
     ]
 
-pub member_true : (sig : Sig) (m : Reading) (v : ℕ → ℕ) (c : Clause) (k : CertLit) → Has c k → is_true sig m v k ≡ true → clause_true sig m v c ≡ true
+pub member_true : (sig : Sig) (m : Reading) (v : ℕ → ℕ) (c : Clause) (k : Literal) → Has c k → is_true sig m v k ≡ true → clause_true sig m v c ≡ true
 member_true sig m v [] k h t = absurd h
 member_true sig m v (x ∷ xs) k h t =
     elim h [
-      | inl same ↦ or_left (is_true sig m v x) (clause_true sig m v xs) (subst (λ (l : CertLit). is_true sig m v l ≡ true) (sym same) t)
+      | inl same ↦ or_left (is_true sig m v x) (clause_true sig m v xs) (subst (λ (l : Literal). is_true sig m v l ≡ true) (sym same) t)
       | inr rest ↦ or_right (is_true sig m v x) (clause_true sig m v xs) (member_true sig m v xs k rest t)
     ]
 
@@ -45,10 +43,10 @@ opposite-is_true sig m v true a t = not_from_true (atom_true sig m v a) t
 opposite-is_true sig m v false a t = not-true (atom_true sig m v a) t
 
 -- the truths of a true and a false literal differ, so the literals do
-pub differ : (sig : Sig) (m : Reading) (v : ℕ → ℕ) (k l : CertLit) → is_true sig m v k ≡ true → is_true sig m v l ≡ false → k ≢ l
-differ sig m v k l t f same = both_ways (is_true sig m v l) f (subst (λ (x : CertLit). is_true sig m v x ≡ true) same t)
+pub differ : (sig : Sig) (m : Reading) (v : ℕ → ℕ) (k l : Literal) → is_true sig m v k ≡ true → is_true sig m v l ≡ false → k ≢ l
+differ sig m v k l t f same = both_ways (is_true sig m v l) f (subst (λ (x : Literal). is_true sig m v x ≡ true) same t)
 
-pub resolvent_true : (sig : Sig) (m : Reading) (v : ℕ → ℕ) (a : Clause) (l : CertLit) (b result : Clause) → Resolves a l b result → clause_true sig m v a ≡ true → clause_true sig m v b ≡ true → clause_true sig m v result ≡ true
+pub resolvent_true : (sig : Sig) (m : Reading) (v : ℕ → ℕ) (a : Clause) (l : Literal) (b result : Clause) → Resolves a l b result → clause_true sig m v a ≡ true → clause_true sig m v b ≡ true → clause_true sig m v result ≡ true
 resolvent_true sig m v a l b result r ta tb =
     elim (cases_Bool (is_true sig m v l)) [
       | inl pivot ↦
@@ -74,7 +72,7 @@ pub AllTrue-push : (sig : Sig) (m : Reading) (v : ℕ → ℕ) (cs : List Clause
 AllTrue-push sig m v [] c h t = (t, tt)
 AllTrue-push sig m v (x ∷ xs) c h t = (h.0, AllTrue-push sig m v xs c h.1 t)
 
-pub chain_true : (sig : Sig) (m : Reading) (v : ℕ → ℕ) (earlier : List Clause) (now : Clause) (steps : List (CertLit × ℕ)) (result : Clause) → AllTrue sig m v earlier → clause_true sig m v now ≡ true → Chain earlier now steps result → clause_true sig m v result ≡ true
+pub chain_true : (sig : Sig) (m : Reading) (v : ℕ → ℕ) (earlier : List Clause) (now : Clause) (steps : List (Literal × ℕ)) (result : Clause) → AllTrue sig m v earlier → clause_true sig m v now ≡ true → Chain earlier now steps result → clause_true sig m v result ≡ true
 chain_true sig m v earlier now [] result h t same =
     let k = true_member sig m v now t in
     member_true sig m v result k.0 ((same k.0).0 k.1) k.2
@@ -104,11 +102,6 @@ clause_holds m [] i input h e = cc
 clause_holds m (x ∷ cs) zero input h e = let same : x ≡ input = cc e in subst (λ (c : FirstOrderClause). ClauseHolds m c) same h.0
 clause_holds m (x ∷ cs) (suc i) input h e = clause_holds m cs i input h.1 e
 
--- the literals of a line are those of the instance
-same_literals : (sig : Sig) (m : Reading) (terms : List Term) (ls : List Literal) → clause_true sig m (value_of m terms) (map ground ls) ≡ literals_true sig m terms ls
-same_literals sig m terms [] = refl
-same_literals sig m terms (l ∷ ls) = λ i. lit_true sig m (value_of m terms) l.positive l.atom || same_literals sig m terms ls i
-
 -- an interpretation of the table's symbols that satisfies its clauses, and terms over them
 pub record Holds (p : Problem) (m : Reading) (terms : List Term) : Type 0 where
   pub interprets : IsInterpretation p.symbols m
@@ -116,10 +109,9 @@ pub record Holds (p : Problem) (m : Reading) (terms : List Term) : Type 0 where
   pub good : are_terms p.symbols terms ≡ true
 
 pub line_true : (p : Problem) (m : Reading) (terms : List Term) → Holds p m terms → (earlier : List Clause) (line : Line) (c : Clause) → AllTrue p.symbols m (value_of m terms) earlier → IsGoodLine p terms earlier line c → clause_true p.symbols m (value_of m terms) c ≡ true
-line_true p m terms is earlier (Line.Instance i subst') c h (input, literals, found, substitution, instance, made) =
+line_true p m terms is earlier (Line.Instance i subst') c h (input, found, substitution, instance) =
     let holds = clause_holds m p.clauses i input is.satisfies found in
-    let here = instances_true p.symbols m terms input (numbers subst') literals is.interprets is.good substitution instance holds in
-    subst (λ (y : Clause). clause_true p.symbols m (value_of m terms) y ≡ true) (sym made) (same_literals p.symbols m terms literals ∙ here.whole)
+    (instances_true p.symbols m terms input (numbers subst') c is.interprets is.good substitution instance holds).whole
 line_true p m terms is earlier (Line.Sum n ks) c h (long, big, made) = subst (λ (y : Clause). clause_true p.symbols m (value_of m terms) y ≡ true) (sym made) (sum_true p.symbols m (value_of m terms) 0 ks n 0 (omega arith) (omega arith) (omega arith))
 line_true p m terms is earlier (Line.OrderZero s) c h (within, made) =
     let some : 1 ≤ m.size s.0 = is.interprets.inhabited s.0 within in

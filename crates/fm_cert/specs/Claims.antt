@@ -3,20 +3,22 @@ use Rattle.std.specs.Prelude.{◌≡◌, ℕ, zero, suc, ◌+◌, ◌≤◌, tru
 use Rattle.fm_base.specs.Interpretations.{Reading, IsInterpretation, reading_of, is_fit}
 use Rattle.fm_base.specs.Models.{IsModel, sum_of_sizes}
 use Rattle.fm_bank.specs.Clauses.{Satisfies}
-use Rattle.fm_bank.specs.Terms.{Term, are_terms, value_of}
-use Rattle.fm_cert.specs.Lines.{Clause, Problem, AreGoodLines, above, clause_true}
+use Rattle.fm_bank.specs.Meaning.{literals_true}
+use Rattle.fm_bank.specs.Terms.{Term, are_terms}
+use Rattle.fm_cert.specs.Lines.{Clause, Problem, AreGoodLines, above}
 use Rattle.fm_cert.specs.declared.block.Line.{Line}
 use Rattle.fm_cert.specs.declared.block.Block.{Block}
 use Rattle.fm_cert.specs.declared.block.Claim.{Claim}
 
--- The clause table says what the assertions say: each model of them has an expansion to the table's symbols, with the same
--- sizes, that satisfies every clause.
-abbrev pub Expansion : Problem → Reading → Type 0
-Expansion p m = (at : ℕ → List ℕ → ℕ) × IsInterpretation p.symbols (record { size = m.size; at = at }) × Satisfies (record { size = m.size; at = at }) p.clauses
+-- with other values of the symbols and the same sizes it is an interpretation of the table's symbols that satisfies every
+-- clause
+abbrev pub HasClauseModel : Problem → Reading → Type 0
+HasClauseModel p m = (at : ℕ → List ℕ → ℕ) × IsInterpretation p.symbols (record { size = m.size; at = at }) × Satisfies (record { size = m.size; at = at }) p.clauses
 
+-- The clause table says no more than the assertions: each model of them has such an interpretation.
 pub record HasTable (p : Problem) : Type 0 where
   pub sorts : p.symbols.sorts ≡ p.sig.sorts
-  pub expands : (m : Reading) → IsModel p.sig p.assertions m → Expansion p m
+  pub expands : (m : Reading) → IsModel p.sig p.assertions m → HasClauseModel p m
 
 -- a line's clause is the one literal "the sizes add up to more than n - 1"; below a sum of 0 there is nothing
 abbrev pub ShowsLeast : List Clause → ℕ → Type 0
@@ -57,4 +59,4 @@ BlocksAreSound = (p : Problem) (block : Block) → HasTable p → IsGoodBlock p 
 -- every clause of good lines over a list of terms holds in every interpretation of the table's symbols that satisfies its
 -- clauses, each term having its value there
 abbrev pub GoodLinesHold : Type 0
-GoodLinesHold = (p : Problem) (m : Reading) (terms : List Term) (lines : List Line) (clauses : List Clause) (i : ℕ) (clause : Clause) → IsInterpretation p.symbols m → are_terms p.symbols terms ≡ true → Satisfies m p.clauses → AreGoodLines p terms [] lines clauses → slice_get clauses i ≡ Some clause → clause_true p.symbols m (value_of m terms) clause ≡ true
+GoodLinesHold = (p : Problem) (m : Reading) (terms : List Term) (lines : List Line) (clauses : List Clause) (i : ℕ) (clause : Clause) → IsInterpretation p.symbols m → are_terms p.symbols terms ≡ true → Satisfies m p.clauses → AreGoodLines p terms [] lines clauses → slice_get clauses i ≡ Some clause → literals_true p.symbols m terms clause ≡ true

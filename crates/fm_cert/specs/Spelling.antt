@@ -5,8 +5,8 @@ use Rattle.fm_base.specs.declared.interp.Interp.{Interp}
 use Rattle.fm_base.specs.declared.interp.Table.{Table}
 use Rattle.fm_base.specs.declared.ids.TermId.{TermId}
 use Rattle.fm_bank.specs.declared.atom.Atom.{Atom}
+use Rattle.fm_bank.specs.declared.literal.Literal.{Literal}
 use Rattle.fm_cert.specs.declared.block.Block.{Block}
-use Rattle.fm_cert.specs.declared.block.CertLit.{CertLit}
 use Rattle.fm_cert.specs.declared.block.Claim.{Claim}
 use Rattle.fm_cert.specs.declared.block.Line.{Line}
 
@@ -32,7 +32,7 @@ spelling_of_atom (Atom.Pred t) = codes "P" ++ decimal t.0
 spelling_of_atom (Atom.Card s k) = codes "C" ++ decimal s.0 ++ codes "," ++ decimal k
 spelling_of_atom (Atom.Bound n) = codes "B" ++ decimal n
 
-abbrev pub spelling_of_step : (CertLit × ℕ) → List ℕ
+abbrev pub spelling_of_step : (Literal × ℕ) → List ℕ
 spelling_of_step step = codes " " ++ spelling_of_sign step.0.positive ++ spelling_of_atom step.0.atom ++ spelling_of_number step.1
 
 abbrev pub spelling_of_term : TermId → List ℕ

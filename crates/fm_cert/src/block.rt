@@ -1,13 +1,6 @@
-use fm_bank::Atom;
+use fm_bank::Literal;
 use fm_base::{Interp, SortId, TermId};
 use sqlite_items::Items;
-
-/// A literal of a certificate's clause.
-#[derive(Clone, Copy, Debug, PartialEq, Eq, Hash)]
-pub struct CertLit {
-    pub positive: bool,
-    pub atom: Atom,
-}
 
 /// A line of a block. Clauses are numbered from 0 within the block, in the order of the lines that make them.
 ///
@@ -29,7 +22,7 @@ pub enum Line {
     },
     Resolution {
         first: usize,
-        steps: Items<(CertLit, usize)>,
+        steps: Items<(Literal, usize)>,
     },
 }
 

@@ -7,6 +7,6 @@ mod laws;
 mod tests;
 mod text;
 
-pub use block::{Block, CertLit, Claim, Line};
+pub use block::{Block, Claim, Line};
 pub use laws::{blocks_are_sound, good_lines_hold};
 pub use text::{header_line, print};

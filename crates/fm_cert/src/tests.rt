@@ -1,13 +1,13 @@
-use crate::block::{Block, CertLit, Claim, Line};
+use crate::block::{Block, Claim, Line};
 use crate::text::print;
-use fm_bank::Atom;
+use fm_bank::{Atom, Literal};
 use fm_base::{Interp, SortId, Table, TermId};
 use sqlite_items::Items;
 use std::alloc::{AllocError, Global};
 use std::test::Fail;
 
-fn lit(positive: bool, atom: Atom) -> CertLit {
-    CertLit { positive, atom }
+fn lit(positive: bool, atom: Atom) -> Literal {
+    Literal { positive, atom }
 }
 
 fn lines_of(alloc: Global) -> Result<Items<Line>, AllocError> {

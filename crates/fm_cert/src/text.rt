@@ -2,8 +2,8 @@ ghost use Rattle.std.specs.Prelude.{◌≡◌, ℕ, List, ◌++◌, codes, decim
 ghost use Rattle.std.specs.List.{flat_map};
 ghost use Rattle.fm_cert.specs.Spelling.{header, line_feed, spelling_of_number, spelling_of_numbers, spelling_of_sign, spelling_of_atom, spelling_of_step, spelling_of_line, spelling_of_term, spelling_of_exception, spelling_of_table, spelling_of_model, spelling_of_claim, spelling_of_block};
 
-use crate::block::{Block, CertLit, Claim, Line};
-use fm_bank::Atom;
+use crate::block::{Block, Claim, Line};
+use fm_bank::{Atom, Literal};
 use fm_base::{Interp, Table, TermId};
 use itoa::Buffer;
 use sqlite_items::Items;
@@ -121,7 +121,7 @@ fn print_atom(out: &mut Vec<u8>, atom: Atom) -> Result<(), AllocError>
     }
 }
 
-fn print_step(out: &mut Vec<u8>, lit: CertLit, clause: usize) -> Result<(), AllocError>
+fn print_step(out: &mut Vec<u8>, lit: Literal, clause: usize) -> Result<(), AllocError>
     ensures { OnOk result (out.new.items ≡ out.old.items ++ spelling_of_step (lit, clause)) }
 {
     out.extend_from_slice(b" ")?;
@@ -130,7 +130,7 @@ fn print_step(out: &mut Vec<u8>, lit: CertLit, clause: usize) -> Result<(), Allo
     print_place(out, clause)
 }
 
-fn print_steps(out: &mut Vec<u8>, steps: &[(CertLit, usize)]) -> Result<(), AllocError>
+fn print_steps(out: &mut Vec<u8>, steps: &[(Literal, usize)]) -> Result<(), AllocError>
     ensures { OnOk result (out.new.items ≡ out.old.items ++ flat_map spelling_of_step steps.now) }
 {
     for step in steps {

@@ -23,7 +23,7 @@ use Rattle.fm_bank.specs.declared.atom.Atom.{Atom}
 use Rattle.fmf.specs.Scopes.{Told, Declared, nothing, declared_after, is_in_order, are_in_order, is_among, is_declarable, sort_of}
 use Rattle.fm_cert.specs.Lines.{Problem, Clause, Has, Resolves, Chain, at_most, more_than, above, sum_clause, total_above, AreGoodLines}
 use Rattle.fm_cert.specs.Claims.{ShowsLeast, IsGoodBlock, HasTable}
-use Rattle.fm_cert.specs.declared.block.CertLit.{CertLit}
+use Rattle.fm_bank.specs.declared.literal.Literal.{Literal}
 use Rattle.fm_cert.specs.declared.block.Line.{Line}
 use Rattle.fmf.specs.Certified.{constant_zero, one_element_model, orders, zero_steps, lines_of, block_of, refuting_block, answering_block}
 use Rattle.fmf.specs.InForce.{declared_by, number_of, number_in, rank_of, constant, plain_constant, equation_clause, empty_clause, assertions_of, clauses_of, signature_of, problem_in, in_force}
@@ -41,13 +41,13 @@ mark t = record { 0 = t }
 pub not_below : (s t n b : ℕ) → s < t → Has (sum_clause t (replicate n 0) b) (at_most s 0) → ⊥
 not_below s t zero b lt h =
     elim h [
-      | inl e ↦ let signs : false ≡ true = ap (λ (l : CertLit). l.positive) e in false≢true signs
+      | inl e ↦ let signs : false ≡ true = ap (λ (l : Literal). l.positive) e in false≢true signs
       | inr none ↦ none
     ]
 not_below s t (suc n) b lt h =
     elim h [
       | inl e ↦
-          let atoms : Atom.Card (record { 0 = t }) 0 ≡ Atom.Card (record { 0 = s }) 0 = ap (λ (l : CertLit). l.atom) e in
+          let atoms : Atom.Card (record { 0 = t }) 0 ≡ Atom.Card (record { 0 = s }) 0 = ap (λ (l : Literal). l.atom) e in
           let ids : mark t ≡ mark s = cc atoms in
           let sorts : t ≡ s = ap (λ (i : SortId). i.0) ids in
           absurd (omega arith)
@@ -59,7 +59,7 @@ resolves_next s n b = record {
   stands = inl refl;
   against = inl refl;
   exactly = λ k. (
-    λ h. inl (inr h, λ same. not_below s (s + 1) n b (omega arith) (subst (λ (l : CertLit). Has (sum_clause (s + 1) (replicate n 0) b) l) same h)),
+    λ h. inl (inr h, λ same. not_below s (s + 1) n b (omega arith) (subst (λ (l : Literal). Has (sum_clause (s + 1) (replicate n 0) b) l) same h)),
     λ h. elim h [
       | inl left ↦ elim left.0 [ inl e ↦ absurd (left.1 (sym e)) | inr rest ↦ rest ]
       | inr right ↦ elim right.0 [ inl e ↦ absurd (right.1 (sym e)) | inr none ↦ absurd none ]
@@ -290,7 +290,7 @@ block_good past number e none =
 pub refutation_good : (past : List Told) (number clause : ℕ) → falsity_in past ≡ Some clause → IsGoodBlock (in_force past) (refuting_block number clause)
 refutation_good past number clause e = record {
   clauses = [] ∷ [];
-  lines = ([], (empty_clause, [], clause_of_falsity (declared_by nothing past) past clause e, refl, refl, refl), refl);
+  lines = ([], (empty_clause, clause_of_falsity (declared_by nothing past) past clause e, refl, refl), refl);
   ending = (0, refl);
 }
 

@@ -6,7 +6,7 @@ use Rattle.fm_base.specs.declared.interp.Interp.{Interp}
 use Rattle.fm_base.specs.declared.interp.Table.{Table}
 use Rattle.fm_cert.specs.Lines.{at_most}
 use Rattle.fm_cert.specs.declared.block.Block.{Block}
-use Rattle.fm_cert.specs.declared.block.CertLit.{CertLit}
+use Rattle.fm_bank.specs.declared.literal.Literal.{Literal}
 use Rattle.fm_cert.specs.declared.block.Claim.{Claim}
 use Rattle.fm_cert.specs.declared.block.Line.{Line}
 
@@ -22,7 +22,7 @@ orders s zero = []
 orders s (suc n) = Line.OrderZero (record { 0 = s }) ∷ orders (s + 1) n
 
 -- a step for each of n sorts from s on: that it has at most 0 elements, with the clause of its line `o z`
-unfoldable pub zero_steps : ℕ → ℕ → List (CertLit × ℕ)
+unfoldable pub zero_steps : ℕ → ℕ → List (Literal × ℕ)
 zero_steps s zero = []
 zero_steps s (suc n) = (at_most s 0, s + 1) ∷ zero_steps (s + 1) n
 

@@ -1,9 +1,9 @@
 ghost use Rattle.std.specs.Prelude.{◌≡◌, ℕ, ◌++◌, ◌+◌, ◌<◌, ◌^◌, IfOk, OnOk, replicate};
 ghost use Rattle.fmf.specs.Certified.{answering_block, refuting_block, block_of, lines_of, one_element_model, constant_zero, orders, zero_steps};
 
-use fm_bank::Atom;
+use fm_bank::{Atom, Literal};
 use fm_base::{Interp, SortId, Table};
-use fm_cert::{Block, CertLit, Claim, Line};
+use fm_cert::{Block, Claim, Line};
 use sqlite_items::Items;
 use std::alloc::{AllocError, Global};
 
@@ -87,12 +87,12 @@ fn push_orders(lines: &mut Vec<Line>, sorts: usize) -> Result<(), AllocError>
     Ok(())
 }
 
-fn steps_for(alloc: Global, sorts: usize) -> Result<Items<(CertLit, usize)>, AllocError>
+fn steps_for(alloc: Global, sorts: usize) -> Result<Items<(Literal, usize)>, AllocError>
     ensures { IfOk result (λ steps. steps ≡ zero_steps 0 sorts) }
 {
     let mut steps = Vec::new(alloc);
     for sort in 0..sorts {
-        let lit = CertLit {
+        let lit = Literal {
             positive: true,
             atom: Atom::Card(SortId(sort), 0),
         };
