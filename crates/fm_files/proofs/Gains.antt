@@ -1,5 +1,5 @@
 -- How entries are made of lists of names, one name after another.
-use Rattle.std.proofs.Common.{◌≡◌, inl, inr, ℕ, Bool, true, false, cond, List, [], ◌∷◌, ◌++◌, Option, Some, None, refl, sym, ap, subst}
+use Rattle.std.proofs.Common.{◌≡◌, inl, inr, ℕ, Bool, true, false, ◌||◌, cond, is_some, List, [], ◌∷◌, ◌++◌, Option, Some, None, refl, sym, ap, subst}
 use Rattle.std.specs.Prelude.{String, Vec, string_bytes}
 use Rattle.std.specs.Str.{bytes_eq}
 use Rattle.std.specs.declared.alloc.Global.{Global}
@@ -52,8 +52,12 @@ source_gained old new name bytes e was is others left sunken roomless (reads, wr
     subst (λ (v : Option Entry). GainsSource v (new name) true bytes) (sym was) (subst (λ (v : Option Entry). IsFresh v (Some bytes)) (sym is) fresh) in
     elim (name_told q name) [ inl same ↦ subst (λ (n : List ℕ). GainsSource (old n) (new n) (bytes_eq q name) bytes) (sym same.0) (subst (λ (b : Bool). GainsSource (old name) (new name) b bytes) (sym same.1) at_name) | inr other ↦ subst (λ (v : Option Entry). GainsSource (old q) v (bytes_eq q name) bytes) (sym (others q other.0)) (subst (λ (b : Bool). GainsSource (old q) (old q) b bytes) (sym other.1) (unchanged (old q) bytes)) ]
 
+or_false : (b : Bool) → b ≡ (b || false)
+or_false true = refl
+or_false false = refl
+
 roomless_same : (e : Option Entry) (room : ℕ) → GainsSink e e false room
-roomless_same e room = record { left = refl; sunken = λ h. h; roomy = refl; reads = refl; writes = refl }
+roomless_same e room = record { there = or_false (is_some e); left = refl; sunken = λ h. h; roomy = refl; reads = refl; writes = refl }
 
 pub sink_gained : (old new : List ℕ → Option Entry) (name : List ℕ) (e f : Option Entry) (room : ℕ) → old name ≡ e → new name ≡ f → SameButAt old new name → GainsSink e f true room → (q : List ℕ) → GainsSink (old q) (new q) (bytes_eq q name) room
 sink_gained old new name e f room was is others gains q =
@@ -63,8 +67,8 @@ sink_gained old new name e f room was is others gains q =
 
 pub sink_given : (e f : Entry) (room : ℕ) → sunk f.sink ≡ [] → free f.sink ≡ Some room → f.source ≡ e.source → (f.read_faults ≡ e.read_faults) × (f.write_faults ≡ e.write_faults) → GainsSink (Some e) (Some f) true room
 sink_given e f room sunken roomy source (reads, writes) =
-    record { left = ap left_of source; sunken = λ h. sunken; roomy = roomy; reads = reads; writes = writes }
+    record { there = refl; left = ap left_of source; sunken = λ h. sunken; roomy = roomy; reads = reads; writes = writes }
 
 pub sink_made : (f : Entry) (room : ℕ) → left_of f.source ≡ None → sunk f.sink ≡ [] → free f.sink ≡ Some room → (f.read_faults ≡ 0) × (f.write_faults ≡ 0) → GainsSink None (Some f) true room
 sink_made f room left sunken roomy (reads, writes) =
-    record { left = left; sunken = λ h. sunken; roomy = roomy; reads = reads; writes = writes }
+    record { there = refl; left = left; sunken = λ h. sunken; roomy = roomy; reads = reads; writes = writes }

@@ -5,7 +5,7 @@ use Rattle.std.proofs.lemmas.List.{append-nil}
 use Rattle.std.specs.BTreeMap.{BTreeMap, get_by_text}
 use Rattle.std.specs.declared.alloc.Global.{Global}
 use Rattle.std.specs.Prelude.{String}
-use Rattle.fm_files.specs.Entries.{left_of, sunk, free, left_at, sunk_at, free_at, seen_in}
+use Rattle.fm_files.specs.Entries.{counted, left_of, sunk, free, left_at, sunk_at, free_at, seen_in}
 use Rattle.fm_files.specs.Memory.{is_nil}
 use Rattle.fm_files.specs.Seen.{NoFault, HasRoom, lowered, Adds}
 use Rattle.fm_files.specs.declared.entry.Entry.{Entry}
@@ -25,15 +25,15 @@ some_room : (o : Option ℕ) (n : ℕ) → HasRoom o n → is_some o ≡ true
 some_room None n h = absurd h
 some_room (Some r) n h = refl
 
-pub quiet_read : (m : MemFiles) (entries : BTreeMap (String Global) Entry) (name : List ℕ) (e f : Entry) (result : Result ℕ Failed) → OneChanged (get_by_text m.entries) (get_by_text entries) name e f → f.read_faults ≡ (if is_ok result then e.read_faults else min (e.read_faults + 1) (2 ^ 64 - 1)) → f.write_faults ≡ e.write_faults → OnOk result (NoFault (seen_in m) (seen_in (changed m entries)))
+pub quiet_read : (m : MemFiles) (entries : BTreeMap (String Global) Entry) (name : List ℕ) (e f : Entry) (result : Result ℕ Failed) → OneChanged (get_by_text m.entries) (get_by_text entries) name e f → f.read_faults ≡ counted (is_ok result) e.read_faults → f.write_faults ≡ e.write_faults → OnOk result (NoFault (seen_in m) (seen_in (changed m entries)))
 quiet_read m entries name e f (Ok k) h reads writes = quiet m entries name e f h reads writes
 quiet_read m entries name e f (Err x) h reads writes = search
 
-pub quiet_write : {T : Type 0} (m : MemFiles) (entries : BTreeMap (String Global) Entry) (name : List ℕ) (e f : Entry) (result : Result T Failed) → OneChanged (get_by_text m.entries) (get_by_text entries) name e f → f.read_faults ≡ e.read_faults → f.write_faults ≡ (if is_ok result then e.write_faults else min (e.write_faults + 1) (2 ^ 64 - 1)) → OnOk result (NoFault (seen_in m) (seen_in (changed m entries)))
+pub quiet_write : {T : Type 0} (m : MemFiles) (entries : BTreeMap (String Global) Entry) (name : List ℕ) (e f : Entry) (result : Result T Failed) → OneChanged (get_by_text m.entries) (get_by_text entries) name e f → f.read_faults ≡ e.read_faults → f.write_faults ≡ counted (is_ok result) e.write_faults → OnOk result (NoFault (seen_in m) (seen_in (changed m entries)))
 quiet_write m entries name e f (Ok k) h reads writes = quiet m entries name e f h reads writes
 quiet_write m entries name e f (Err x) h reads writes = search
 
-pub sure_read : (m : MemFiles) (entries : BTreeMap (String Global) Entry) (name : List ℕ) (e f : Entry) (fails : Bool) (result : Result ℕ Failed) → OneChanged (get_by_text m.entries) (get_by_text entries) name e f → (is_nil m.fail_reads.items ≡ true → fails ≡ false) → (IsOk result ↔ ((fails ≡ false) × (is_some (left_of e.source) ≡ true))) → f.read_faults ≡ (if is_ok result then e.read_faults else min (e.read_faults + 1) (2 ^ 64 - 1)) → f.write_faults ≡ e.write_faults → (seen_in m).is_sure name ≡ true → IsOk result × NoFault (seen_in m) (seen_in (changed m entries))
+pub sure_read : (m : MemFiles) (entries : BTreeMap (String Global) Entry) (name : List ℕ) (e f : Entry) (fails : Bool) (result : Result ℕ Failed) → OneChanged (get_by_text m.entries) (get_by_text entries) name e f → (is_nil m.fail_reads.items ≡ true → fails ≡ false) → (IsOk result ↔ ((fails ≡ false) × (is_some (left_of e.source) ≡ true))) → f.read_faults ≡ counted (is_ok result) e.read_faults → f.write_faults ≡ e.write_faults → (seen_in m).is_sure name ≡ true → IsOk result × NoFault (seen_in m) (seen_in (changed m entries))
 sure_read m entries name e f fails (Ok k) h none ok reads writes sure =
     (search, quiet m entries name e f h reads writes)
 sure_read m entries name e f fails (Err x) h none ok reads writes sure =
@@ -41,7 +41,7 @@ sure_read m entries name e f fails (Err x) h none ok reads writes sure =
     let k : false ≡ true = ok.1 (none empty, subst (λ (o : Option Entry). is_some (left_at o) ≡ true) h.was there) in
     absurd (cc k)
 
-pub roomy_begin : (m : MemFiles) (entries : BTreeMap (String Global) Entry) (name : List ℕ) (e f : Entry) (fails : Bool) (result : Result Unit Failed) (n : ℕ) → OneChanged (get_by_text m.entries) (get_by_text entries) name e f → (is_nil m.fail_writes.items ≡ true → fails ≡ false) → (IsOk result ↔ ((fails ≡ false) × (is_some (free e.sink) ≡ true))) → (HasRoom (free e.sink) n → HasRoom (free f.sink) n) → f.read_faults ≡ e.read_faults → f.write_faults ≡ (if is_ok result then e.write_faults else min (e.write_faults + 1) (2 ^ 64 - 1)) → HasRoom ((seen_in m).room name) n → IsOk result × HasRoom ((seen_in (changed m entries)).room name) n × NoFault (seen_in m) (seen_in (changed m entries))
+pub roomy_begin : (m : MemFiles) (entries : BTreeMap (String Global) Entry) (name : List ℕ) (e f : Entry) (fails : Bool) (result : Result Unit Failed) (n : ℕ) → OneChanged (get_by_text m.entries) (get_by_text entries) name e f → (is_nil m.fail_writes.items ≡ true → fails ≡ false) → (IsOk result ↔ ((fails ≡ false) × (is_some (free e.sink) ≡ true))) → (HasRoom (free e.sink) n → HasRoom (free f.sink) n) → f.read_faults ≡ e.read_faults → f.write_faults ≡ counted (is_ok result) e.write_faults → HasRoom ((seen_in m).room name) n → IsOk result × HasRoom ((seen_in (changed m entries)).room name) n × NoFault (seen_in m) (seen_in (changed m entries))
 roomy_begin m entries name e f fails (Ok k) n h none ok room reads writes roomy =
     let (empty, old) = has_room _ _ _ roomy in
     let kept : HasRoom (free f.sink) n = room (subst (λ (o : Option Entry). HasRoom (free_at o) n) h.was old) in
@@ -52,7 +52,7 @@ roomy_begin m entries name e f fails (Err x) n h none ok room reads writes roomy
     let k : false ≡ true = ok.1 (none empty, some_room (free e.sink) n (subst (λ (o : Option Entry). HasRoom (free_at o) n) h.was old)) in
     absurd (cc k)
 
-pub roomy_append : (m : MemFiles) (entries : BTreeMap (String Global) Entry) (name piece : List ℕ) (e f : Entry) (fails : Bool) (result : Result ℕ Failed) → OneChanged (get_by_text m.entries) (get_by_text entries) name e f → (is_nil m.fail_writes.items ≡ true → fails ≡ false) → (IsOk result ↔ ((fails ≡ false) × HasRoom (free e.sink) (length piece))) → IfOk result (λ k. k ≡ length piece) → free f.sink ≡ (if is_ok result then lowered (free e.sink) (length piece) else free e.sink) → f.read_faults ≡ e.read_faults → f.write_faults ≡ (if is_ok result then e.write_faults else min (e.write_faults + 1) (2 ^ 64 - 1)) → HasRoom ((seen_in m).room name) (length piece) → IfOk result (λ k. (seen_in (changed m entries)).room name ≡ lowered ((seen_in m).room name) k) × IsOk result × NoFault (seen_in m) (seen_in (changed m entries))
+pub roomy_append : (m : MemFiles) (entries : BTreeMap (String Global) Entry) (name piece : List ℕ) (e f : Entry) (fails : Bool) (result : Result ℕ Failed) → OneChanged (get_by_text m.entries) (get_by_text entries) name e f → (is_nil m.fail_writes.items ≡ true → fails ≡ false) → (IsOk result ↔ ((fails ≡ false) × HasRoom (free e.sink) (length piece))) → IfOk result (λ k. k ≡ length piece) → free f.sink ≡ (if is_ok result then lowered (free e.sink) (length piece) else free e.sink) → f.read_faults ≡ e.read_faults → f.write_faults ≡ counted (is_ok result) e.write_faults → HasRoom ((seen_in m).room name) (length piece) → IfOk result (λ k. (seen_in (changed m entries)).room name ≡ lowered ((seen_in m).room name) k) × IsOk result × NoFault (seen_in m) (seen_in (changed m entries))
 roomy_append m entries name piece e f fails (Ok k) h none ok all room reads writes roomy =
     let (empty, old) = has_room _ _ _ roomy in
     let now : free_at (get_by_text entries name) ≡ lowered (free_at (get_by_text m.entries name)) k =

@@ -1,5 +1,5 @@
 -- What files in memory tell of each name, from what they keep of it.
-use Rattle.std.specs.Prelude.{◌≡◌, ℕ, ◌+◌, ◌-◌, ◌^◌, ◌==◌, min, Bool, true, false, ◌&&◌, cond, List, [], drop, Option, Some, None, is_some, vec_len}
+use Rattle.std.specs.Prelude.{◌≡◌, ℕ, ◌+◌, ◌-◌, ◌^◌, ◌==◌, min, Bool, true, false, ◌&&◌, ◌||◌, if◌then◌else◌, cond, List, [], drop, length, IfOk, IfSome, Result, Option, Some, None, is_some, vec_len}
 use Rattle.std.specs.List.{list_any}
 use Rattle.std.specs.BTreeMap.{get_by_text}
 use Rattle.fm_files.specs.Memory.{is_nil}
@@ -70,8 +70,9 @@ GainsSource (Some e) new named bytes = new ≡ Some e
 GainsSource None new false bytes = new ≡ None
 GainsSource None new true bytes = IsFresh new (Some bytes)
 
--- the named entry has this room from now on
+-- the named entry is there and has this room from now on
 pub record GainsSink (old new : Option Entry) (named : Bool) (room : ℕ) : Type 0 where
+  pub there : is_some new ≡ (is_some old || named)
   pub left : left_at new ≡ left_at old
   pub sunken : sunk_at old ≡ [] → sunk_at new ≡ []
   pub roomy : free_at new ≡ cond named (Some room) (free_at old)
@@ -85,12 +86,24 @@ pub record Calls : Type 0 where
   pub fail_reads : List ℕ
   pub fail_writes : List ℕ
 
+-- no call yet
+abbrev pub no_calls : List ℕ → List ℕ → Calls
+no_calls fail_reads fail_writes = record { reads = 0; writes = 0; fail_reads = fail_reads; fail_writes = fail_writes }
+
 abbrev pub calls_of : MemFiles → Calls
 calls_of m = record { reads = m.reads; writes = m.writes; fail_reads = m.fail_reads.items; fail_writes = m.fail_writes.items }
 
--- one call more; the last number is kept
+-- one more; the last number is kept
 abbrev pub next : ℕ → ℕ
-next calls = min (calls + 1) (2 ^ 64 - 1)
+next n = min (n + 1) (2 ^ 64 - 1)
+
+-- a count after a call that succeeded or failed
+abbrev pub counted : Bool → ℕ → ℕ
+counted succeeded n = if succeeded then n else next n
+
+-- known bytes go in as far as there are some and they fit
+abbrev pub FillsFrom : {E : Type 0} → Option (List ℕ) → Result ℕ E → List ℕ → Type 0
+FillsFrom left r into = IfSome left (λ xs. IfOk r (λ k. k ≡ min (length xs) (length into)))
 
 abbrev pub after_read : Calls → Calls
 after_read c = record { reads = next c.reads; writes = c.writes; fail_reads = c.fail_reads; fail_writes = c.fail_writes }
@@ -104,6 +117,10 @@ fails_read m = list_any (λ n. n == next m.reads) m.fail_reads.items
 
 abbrev pub fails_write : MemFiles → Bool
 fails_write m = list_any (λ n. n == next m.writes) m.fail_writes.items
+
+-- whether the name may be read or written
+abbrev pub is_known : MemFiles → List ℕ → Bool
+is_known m name = is_some (get_by_text m.entries name)
 
 -- what is left of the room of a name, listed calls or not
 abbrev pub room_in : MemFiles → List ℕ → Option ℕ

@@ -1,5 +1,5 @@
 -- What files in memory tell of each name when they are made.
-use Rattle.std.specs.Prelude.{◌≡◌, ℕ, Bool, true, false, ◌&&◌, cond, List, [], ◌∷◌, Option, Some, None, is_some, String, Vec, string_bytes}
+use Rattle.std.specs.Prelude.{◌≡◌, ℕ, Bool, true, false, ◌&&◌, ◌||◌, if◌then◌else◌, cond, List, [], ◌∷◌, Option, Some, None, is_some, String, Vec, string_bytes}
 use Rattle.std.specs.List.{list_any}
 use Rattle.std.specs.Str.{bytes_eq}
 use Rattle.std.specs.declared.alloc.Global.{Global}
@@ -12,6 +12,14 @@ content_of (f ∷ fs) name = cond (bytes_eq name (string_bytes f.0)) (Some f.1.i
 
 abbrev pub is_named : List (String Global) → List ℕ → Bool
 is_named outs name = list_any (λ (o : String Global). bytes_eq name (string_bytes o)) outs
+
+-- whether a name may be read or written
+abbrev pub is_listed : List (String Global × Vec ℕ Global) → List (String Global) → List ℕ → Bool
+is_listed files outs name = is_some (content_of files name) || is_named outs name
+
+-- the room of a name at the start
+abbrev pub room_given : List (String Global) → ℕ → List ℕ → Option ℕ
+room_given outs room name = if is_named outs name then Some room else None
 
 abbrev pub is_nil : List ℕ → Bool
 is_nil [] = true

@@ -90,7 +90,7 @@ impl Sink {
 }
 
 impl Entry {
-    ghost use Rattle.fm_files.specs.Entries.{left_of, sunk, free};
+    ghost use Rattle.fm_files.specs.Entries.{FillsFrom, counted, left_of, next, sunk, free};
 
     /// A name that may be read.
     pub fn with_source(bytes: Vec<u8>) -> Entry
@@ -134,17 +134,21 @@ impl Entry {
     }
 
     fn fail_read(&mut self)
-        ensures reads { self.new.read_faults ≡ min (self.old.read_faults + 1) (2 ^ 64 - 1) }
+        ensures reads { self.new.read_faults ≡ next self.old.read_faults }
         ensures later { self.old.read_faults ≤ self.new.read_faults }
-        ensures same { (self.new.source ≡ self.old.source) × (self.new.sink ≡ self.old.sink) × (self.new.write_faults ≡ self.old.write_faults) }
+        ensures source { self.new.source ≡ self.old.source }
+        ensures sink { self.new.sink ≡ self.old.sink }
+        ensures writes { self.new.write_faults ≡ self.old.write_faults }
     {
         self.read_faults = self.read_faults.saturating_add(1);
     }
 
     fn fail_write(&mut self)
-        ensures writes { self.new.write_faults ≡ min (self.old.write_faults + 1) (2 ^ 64 - 1) }
+        ensures writes { self.new.write_faults ≡ next self.old.write_faults }
         ensures later { self.old.write_faults ≤ self.new.write_faults }
-        ensures same { (self.new.source ≡ self.old.source) × (self.new.sink ≡ self.old.sink) × (self.new.read_faults ≡ self.old.read_faults) }
+        ensures source { self.new.source ≡ self.old.source }
+        ensures sink { self.new.sink ≡ self.old.sink }
+        ensures reads { self.new.read_faults ≡ self.old.read_faults }
     {
         self.write_faults = self.write_faults.saturating_add(1);
     }
@@ -153,12 +157,12 @@ impl Entry {
     pub fn read(&mut self, fails: bool, into: &mut [u8]) -> Result<usize, Failed>
         ensures bound { ReadsAtMost result into.new }
         ensures bytes { ReadConsumes (left_of self.old.source) (left_of self.new.source) result into.new }
-        ensures full { IfSome (left_of self.old.source) (λ xs. IfOk result (λ k. k ≡ min (length xs) (length into.new))) }
+        ensures full { FillsFrom (left_of self.old.source) result into.new }
         ensures ok { IsOk result ↔ ((fails ≡ false) × (is_some (left_of self.old.source) ≡ true)) }
         ensures kept { is_some (left_of self.new.source) ≡ is_some (left_of self.old.source) }
         ensures sink { self.new.sink ≡ self.old.sink }
         ensures later { self.old.read_faults ≤ self.new.read_faults }
-        ensures reads { self.new.read_faults ≡ (if is_ok result then self.old.read_faults else min (self.old.read_faults + 1) (2 ^ 64 - 1)) }
+        ensures reads { self.new.read_faults ≡ counted (is_ok result) self.old.read_faults }
         ensures writes { self.new.write_faults ≡ self.old.write_faults }
     {
         if !fails {
@@ -179,7 +183,7 @@ impl Entry {
         ensures source { self.new.source ≡ self.old.source }
         ensures reads { self.new.read_faults ≡ self.old.read_faults }
         ensures later { self.old.write_faults ≤ self.new.write_faults }
-        ensures writes { self.new.write_faults ≡ (if is_ok result then self.old.write_faults else min (self.old.write_faults + 1) (2 ^ 64 - 1)) }
+        ensures writes { self.new.write_faults ≡ counted (is_ok result) self.old.write_faults }
     {
         if !fails {
             if let Some(sink) = &mut self.sink {
@@ -200,7 +204,7 @@ impl Entry {
         ensures source { self.new.source ≡ self.old.source }
         ensures reads { self.new.read_faults ≡ self.old.read_faults }
         ensures later { self.old.write_faults ≤ self.new.write_faults }
-        ensures writes { self.new.write_faults ≡ (if is_ok result then self.old.write_faults else min (self.old.write_faults + 1) (2 ^ 64 - 1)) }
+        ensures writes { self.new.write_faults ≡ counted (is_ok result) self.old.write_faults }
     {
         if !fails {
             if let Some(sink) = &mut self.sink {
@@ -213,6 +217,7 @@ impl Entry {
         Err(Failed)
     }
 
+    /// The bytes written to the name.
     pub fn written(&self) -> &[u8]
         ensures { result.now ≡ sunk self.now.sink }
     {
@@ -222,12 +227,14 @@ impl Entry {
         }
     }
 
+    /// How many reads of the name failed.
     pub fn read_faults(&self) -> u64
         ensures { result ≡ self.now.read_faults }
     {
         self.read_faults
     }
 
+    /// How many calls of `begin` and `append` on the name failed.
     pub fn write_faults(&self) -> u64
         ensures { result ≡ self.now.write_faults }
     {

@@ -1,9 +1,8 @@
-ghost use Rattle.std.specs.Prelude.{◌≡◌, ℕ, ◌+◌, ◌-◌, ◌^◌, ◌<◌, ◌≤◌, ◌==◌, min, true, false, length, Some, None, IfSome, IfOk, OnOk, OnErr, IsOk, is_some, List, ◌↔◌, if◌then◌else◌};
+ghost use Rattle.std.specs.Prelude.{◌≡◌, ℕ, ◌+◌, ◌-◌, ◌^◌, ◌<◌, ◌≤◌, ◌==◌, min, true, false, length, Some, None, IfSome, IfOk, OnOk, OnErr, IsOk, is_some, List, ◌↔◌, ◌||◌, if◌then◌else◌};
 ghost use Rattle.std.specs.Io.{ReadsAtMost};
-ghost use Rattle.std.specs.Io.KnownBytes.{ReadConsumes};
 ghost use Rattle.std.specs.List.{list_any};
-ghost use Rattle.fm_files.specs.Memory.{is_nil, is_named, IsNew};
-ghost use Rattle.fm_files.specs.Seen.{SameByName, SameButAt, OnlyReads, WritesAt, NoFault, Begins, Adds, HasCause, HasRoom, lowered};
+ghost use Rattle.fm_files.specs.Memory.{is_nil, is_listed as is_listed_in, room_given, IsNew};
+ghost use Rattle.fm_files.specs.Seen.{Adds, AddsSurely, Begins, BeginsSurely, CountsAlone, HasCause, HasRoom, NoFault, OnlyReads, ReadsInto, ReadsSurely, SameButAt, SameByName, WritesAt, lowered};
 
 use crate::entry::Entry;
 use crate::files::{Failed, Files};
@@ -37,21 +36,24 @@ fn is_listed(numbers: &[u64], number: u64) -> bool
 }
 
 impl Files for MemFiles {
-    ghost use Rattle.fm_files.specs.Entries.{seen_in, room_in, calls_of, after_read, after_write, fails_read, fails_write};
+    ghost use Rattle.fm_files.specs.Entries.{FillsFrom, seen_in, room_in, is_known, calls_of, next, after_read, after_write, fails_read, fails_write};
 
     ghost seen = { seen_in };
 
     fn read_next(&mut self, name: &str, into: &mut [u8]) -> Result<usize, Failed>
         ensures bound { ReadsAtMost result into.new }
-        ensures bytes { ReadConsumes ((seen_in self.old).left name.now) ((seen_in self.new).left name.now) result into.new }
+        ensures bytes { ReadsInto (seen_in self.old) (seen_in self.new) name.now result into.new }
         ensures leaves { OnlyReads (seen_in self.old) (seen_in self.new) name.now }
         ensures cause { HasCause ((seen_in self.old).read_faults name.now) ((seen_in self.new).read_faults name.now) result }
-        ensures never { (seen_in self.old).is_sure name.now ≡ true → IsOk result × NoFault (seen_in self.old) (seen_in self.new) }
-        ensures full { IfSome ((seen_in self.old).left name.now) (λ xs. IfOk result (λ k. k ≡ min (length xs) (length into.new))) }
+        ensures never { ReadsSurely (seen_in self.old) (seen_in self.new) name.now result }
+        ensures full { FillsFrom ((seen_in self.old).left name.now) result into.new }
         ensures exact { IsOk result ↔ ((fails_read self.old ≡ false) × (is_some ((seen_in self.old).left name.now) ≡ true)) }
         ensures free { SameByName (room_in self.old) (room_in self.new) }
         ensures calls { calls_of self.new ≡ after_read (calls_of self.old) }
-        ensures counted { OnErr result ((seen_in self.new).read_faults name.now ≡ min ((seen_in self.old).read_faults name.now + 1) (2 ^ 64 - 1)) }
+        ensures known { SameByName (is_known self.old) (is_known self.new) }
+        ensures alone { CountsAlone (is_known self.old) (seen_in self.old).read_faults (seen_in self.new).read_faults name.now }
+        ensures writes { SameByName (seen_in self.old).write_faults (seen_in self.new).write_faults }
+        ensures counted { OnErr result ((seen_in self.new).read_faults name.now ≡ next ((seen_in self.old).read_faults name.now)) }
         ensures quiet { OnOk result (NoFault (seen_in self.old) (seen_in self.new)) }
     {
         self.reads = self.reads.saturating_add(1);
@@ -69,14 +71,17 @@ impl Files for MemFiles {
         ensures begins { Begins ((seen_in self.old).written name.now) ((seen_in self.new).written name.now) result }
         ensures leaves { WritesAt (seen_in self.old) (seen_in self.new) name.now }
         ensures cause { HasCause ((seen_in self.old).write_faults name.now) ((seen_in self.new).write_faults name.now) result }
-        ensures never { (n : ℕ) → HasRoom ((seen_in self.old).room name.now) n → IsOk result × HasRoom ((seen_in self.new).room name.now) n × NoFault (seen_in self.old) (seen_in self.new) }
+        ensures never { BeginsSurely (seen_in self.old) (seen_in self.new) name.now result }
         ensures exact { IsOk result ↔ ((fails_write self.old ≡ false) × (is_some (room_in self.old name.now) ≡ true)) }
         ensures room { (n : ℕ) → HasRoom (room_in self.old name.now) n → HasRoom (room_in self.new name.now) n }
         ensures free { SameButAt (room_in self.old) (room_in self.new) name.now }
         ensures calls { calls_of self.new ≡ after_write (calls_of self.old) }
+        ensures known { SameByName (is_known self.old) (is_known self.new) }
+        ensures alone { CountsAlone (is_known self.old) (seen_in self.old).write_faults (seen_in self.new).write_faults name.now }
+        ensures reads { SameByName (seen_in self.old).read_faults (seen_in self.new).read_faults }
         ensures failed { OnErr result ((seen_in self.new).written name.now ≡ (seen_in self.old).written name.now) }
         ensures kept { OnErr result (room_in self.new name.now ≡ room_in self.old name.now) }
-        ensures counted { OnErr result ((seen_in self.new).write_faults name.now ≡ min ((seen_in self.old).write_faults name.now + 1) (2 ^ 64 - 1)) }
+        ensures counted { OnErr result ((seen_in self.new).write_faults name.now ≡ next ((seen_in self.old).write_faults name.now)) }
         ensures quiet { OnOk result (NoFault (seen_in self.old) (seen_in self.new)) }
     {
         self.writes = self.writes.saturating_add(1);
@@ -96,15 +101,18 @@ impl Files for MemFiles {
         ensures adds { Adds ((seen_in self.old).written name.now) ((seen_in self.new).written name.now) result piece.now }
         ensures leaves { WritesAt (seen_in self.old) (seen_in self.new) name.now }
         ensures cause { HasCause ((seen_in self.old).write_faults name.now) ((seen_in self.new).write_faults name.now) result }
-        ensures never { HasRoom ((seen_in self.old).room name.now) (length piece.now) → IfOk result (λ k. (seen_in self.new).room name.now ≡ lowered ((seen_in self.old).room name.now) k) × IsOk result × NoFault (seen_in self.old) (seen_in self.new) }
+        ensures never { AddsSurely (seen_in self.old) (seen_in self.new) name.now result piece.now }
         ensures all { IfOk result (λ k. k ≡ length piece.now) }
         ensures exact { IsOk result ↔ ((fails_write self.old ≡ false) × HasRoom (room_in self.old name.now) (length piece.now)) }
         ensures room { IfOk result (λ k. room_in self.new name.now ≡ lowered (room_in self.old name.now) k) }
         ensures free { SameButAt (room_in self.old) (room_in self.new) name.now }
         ensures calls { calls_of self.new ≡ after_write (calls_of self.old) }
+        ensures known { SameByName (is_known self.old) (is_known self.new) }
+        ensures alone { CountsAlone (is_known self.old) (seen_in self.old).write_faults (seen_in self.new).write_faults name.now }
+        ensures reads { SameByName (seen_in self.old).read_faults (seen_in self.new).read_faults }
         ensures failed { OnErr result ((seen_in self.new).written name.now ≡ (seen_in self.old).written name.now) }
         ensures kept { OnErr result (room_in self.new name.now ≡ room_in self.old name.now) }
-        ensures counted { OnErr result ((seen_in self.new).write_faults name.now ≡ min ((seen_in self.old).write_faults name.now + 1) (2 ^ 64 - 1)) }
+        ensures counted { OnErr result ((seen_in self.new).write_faults name.now ≡ next ((seen_in self.old).write_faults name.now)) }
         ensures quiet { OnOk result (NoFault (seen_in self.old) (seen_in self.new)) }
     {
         self.writes = self.writes.saturating_add(1);
@@ -120,7 +128,7 @@ impl Files for MemFiles {
 }
 
 impl MemFiles {
-    ghost use Rattle.fm_files.specs.Entries.{room_in, calls_of};
+    ghost use Rattle.fm_files.specs.Entries.{room_in, is_known, calls_of, no_calls};
 
     /// The files that may be read with their bytes, the names that may be written with their room, and the
     /// numbers of the calls that fail. Where a name stands twice in a list, its first entry counts.
@@ -133,8 +141,9 @@ impl MemFiles {
         fail_writes: Vec<u64>,
     ) -> Result<MemFiles, Memory>
         ensures made { IfOk result (λ m. IsNew files.items outs.items room fail_reads.items fail_writes.items (⟦<MemFiles as Files>⟧.seen m)) }
-        ensures rooms { IfOk result (λ m. (name : List ℕ) → room_in m name ≡ (if is_named outs.items name then Some room else None)) }
-        ensures calls { IfOk result (λ m. calls_of m ≡ record { reads = 0; writes = 0; fail_reads = fail_reads.items; fail_writes = fail_writes.items }) }
+        ensures rooms { IfOk result (λ m. (name : List ℕ) → room_in m name ≡ room_given outs.items room name) }
+        ensures known { IfOk result (λ m. (name : List ℕ) → is_known m name ≡ is_listed_in files.items outs.items name) }
+        ensures calls { IfOk result (λ m. calls_of m ≡ no_calls fail_reads.items fail_writes.items) }
     {
         let mut entries = entries_of(alloc, files)?;
         add_sinks(alloc, &mut entries, outs, room)?;

@@ -1,6 +1,6 @@
 ghost use Rattle.std.specs.Prelude.{◌≡◌, ◌≢◌, ℕ, ◌+◌, ◌≤◌, ◌<◌, ◌^◌, true, IfOk, OnOk, OnErr, IsOk, Err, List, length, vec_len};
-ghost use Rattle.std.specs.Io.KnownBytes.{Appends, Consumes, IsAtEnd};
-ghost use Rattle.fm_files.specs.Seen.{OnlyReads, WritesAt, NoFault, AppendsPart, HasCause, Rose, HasRoom, lowered};
+ghost use Rattle.std.specs.Io.KnownBytes.{Consumes};
+ghost use Rattle.fm_files.specs.Seen.{Extends, ExtendsPart, HasCause, NoFault, OnlyReads, ReadsAll, Rose, Takes, WritesAt, WritesSurely};
 ghost use Rattle.fm_files.specs.declared.whole.ReadError.{ReadError};
 
 use crate::files::{Failed, Files};
@@ -29,7 +29,8 @@ impl From<AllocError> for ReadError {
 
 /// Reads all that is left of the name, which may be `limit` bytes at most.
 ///
-/// One byte past the limit is read before `TooLong` is answered, and no more.
+/// One byte past the limit is read before `TooLong` is answered, and no more. Whatever the answer, what was taken is a
+/// front of what was left, and a fault ends the reading.
 pub fn read_all<F: Files>(
     alloc: Global,
     files: &mut F,
@@ -37,11 +38,14 @@ pub fn read_all<F: Files>(
     limit: usize,
 ) -> Result<Vec<u8>, ReadError>
     requires { limit + 1 < 2 ^ 64 }
-    ensures all { IfOk result (λ v. Consumes ((F.seen files.old).left name.now) ((F.seen files.new).left name.now) v.items × IsAtEnd ((F.seen files.new).left name.now)) }
+    ensures all { IfOk result (λ v. ReadsAll (F.seen files.old) (F.seen files.new) name.now v.items) }
     ensures fits { IfOk result (λ v. length v.items ≤ limit) }
     ensures long { result ≡ Err ReadError.TooLong → (bytes : List ℕ) × (length bytes ≡ limit + 1) × Consumes ((F.seen files.old).left name.now) ((F.seen files.new).left name.now) bytes }
+    ensures taken { Takes ((F.seen files.old).left name.now) ((F.seen files.new).left name.now) (limit + 1) }
+    ensures front { result ≡ Err ReadError.Fault → Takes ((F.seen files.old).left name.now) ((F.seen files.new).left name.now) limit }
     ensures fault { result ≡ Err ReadError.Fault → Rose ((F.seen files.old).read_faults name.now) ((F.seen files.new).read_faults name.now) }
     ensures leaves { OnlyReads (F.seen files.old) (F.seen files.new) name.now }
+    ensures quiet { result ≢ Err ReadError.Fault → NoFault (F.seen files.old) (F.seen files.new) }
     ensures never { (F.seen files.old).is_sure name.now ≡ true → (result ≢ Err ReadError.Fault) × NoFault (F.seen files.old) (F.seen files.new) }
 {
     let mut bytes = Vec::new(alloc);
@@ -62,11 +66,12 @@ pub fn read_all<F: Files>(
 
 /// Appends all the bytes to the name, in as many pieces as the name takes them. It takes no memory.
 pub fn write_all_of<F: Files>(files: &mut F, name: &str, bytes: &[u8]) -> Result<(), Failed>
-    ensures ok { OnOk result (Appends ((F.seen files.old).written name.now) ((F.seen files.new).written name.now) bytes.now) }
-    ensures part { OnErr result (AppendsPart ((F.seen files.old).written name.now) ((F.seen files.new).written name.now) bytes.now) }
+    ensures ok { OnOk result (Extends ((F.seen files.old).written name.now) ((F.seen files.new).written name.now) bytes.now) }
+    ensures part { OnErr result (ExtendsPart ((F.seen files.old).written name.now) ((F.seen files.new).written name.now) bytes.now) }
     ensures leaves { WritesAt (F.seen files.old) (F.seen files.new) name.now }
     ensures cause { HasCause ((F.seen files.old).write_faults name.now) ((F.seen files.new).write_faults name.now) result }
-    ensures never { HasRoom ((F.seen files.old).room name.now) (length bytes.now) → ((F.seen files.new).room name.now ≡ lowered ((F.seen files.old).room name.now) (length bytes.now)) × IsOk result × NoFault (F.seen files.old) (F.seen files.new) }
+    ensures quiet { OnOk result (NoFault (F.seen files.old) (F.seen files.new)) }
+    ensures never { WritesSurely (F.seen files.old) (F.seen files.new) name.now result bytes.now }
 {
     let mut rest = bytes;
     while !rest.is_empty() {

@@ -1,11 +1,11 @@
 -- What two writings leave, one after the other.
 use Rattle.std.proofs.Common.{◌≡◌, ◌≢◌, ℕ, ◌-◌, ◌≤◌, ◌⊎◌, inl, inr, List, [], ◌++◌, Option, Some, None, ap, refl, sym, subst, ◌∙◌, arith, append_assoc}
-use Rattle.std.specs.Io.KnownBytes.{Appends}
 use Rattle.std.specs.Str.{bytes_eq}
 use Rattle.std.proofs.lemmas.Bool.{cases_Bool, both_ways}
 use Rattle.std.proofs.lemmas.List.{append-nil}
 use Rattle.std.proofs.lemmas.Slice.Eq.{bytes_eq-Decides}
-use Rattle.fm_files.specs.Seen.{Seen, SameByName, SameButAt, Rose, NoFault, OnlyWrites, Holds, HasRoom, lowered}
+use Rattle.fm_files.proofs.Pieces.{Extends-then}
+use Rattle.fm_files.specs.Seen.{Extends, Seen, SameByName, SameButAt, Rose, NoFault, OnlyWrites, Holds, HasRoom, lowered}
 use Rattle.fmf.specs.Filing.{Puts, PutsInBlock, PutsInReply, CountsRose}
 use Rattle.fmf.specs.Outputs.{Written, Filed, CutInBlock, CutInReply}
 use Rattle.fmf.specs.Words.{dash, cert}
@@ -27,19 +27,17 @@ same_name a b =
 pub same_everywhere : {V : Type 0} (old new : List ℕ → V) (at : List ℕ) → SameButAt old new at → new at ≡ old at → SameByName old new
 same_everywhere old new at others here = λ name. elim (same_name name at) [ inl e ↦ subst (λ (n : List ℕ). new n ≡ old n) (sym e) here | inr ne ↦ others name ne ]
 
-pub Appends-none : (old new : Option (List ℕ)) → new ≡ old → Appends old new []
-Appends-none None new e = tt
-Appends-none (Some xs) None e = cc
-Appends-none (Some xs) (Some ys) e = let same : ys ≡ xs = cc e in same ∙ sym (append-nil xs)
+pub Extends-none : (old new : Option (List ℕ)) → new ≡ old → Extends old new []
+Extends-none None None e = tt
+Extends-none None (Some ys) e = cc
+Extends-none (Some xs) None e = cc
+Extends-none (Some xs) (Some ys) e = let same : ys ≡ xs = cc e in same ∙ sym (append-nil xs)
 
-pub Appends-then : (a b c : Option (List ℕ)) (xs ys : List ℕ) → Appends a b xs → Appends b c ys → Appends a c (xs ++ ys)
-Appends-then None b c xs ys p q = tt
-Appends-then (Some a) None c xs ys p q = absurd p
-Appends-then (Some a) (Some b) None xs ys p q = absurd q
-Appends-then (Some a) (Some b) (Some c) xs ys p q = q ∙ (ap (λ (zs : List ℕ). zs ++ ys) p ∙ append_assoc a xs ys)
-
-pub Holds-then : (a b c : Option (List ℕ)) (xs ys : List ℕ) → Holds a b xs → Appends b c ys → Holds a c (xs ++ ys)
-Holds-then None b c xs ys p q = tt
+pub Holds-then : (a b c : Option (List ℕ)) (xs ys : List ℕ) → Holds a b xs → Extends b c ys → Holds a c (xs ++ ys)
+Holds-then None None None xs ys p q = tt
+Holds-then None None (Some c) xs ys p q = absurd q
+Holds-then None (Some b) None xs ys p q = absurd q
+Holds-then None (Some b) (Some c) xs ys p q = q ∙ ap (λ (zs : List ℕ). zs ++ ys) p
 Holds-then (Some a) None c xs ys p q = absurd p
 Holds-then (Some a) (Some b) None xs ys p q = absurd q
 Holds-then (Some a) (Some b) (Some c) xs ys p q = q ∙ ap (λ (zs : List ℕ). zs ++ ys) p
@@ -47,7 +45,7 @@ Holds-then (Some a) (Some b) (Some c) xs ys p q = q ∙ ap (λ (zs : List ℕ). 
 pub Filed-then : (old mid new : Written) (blocks replies block reply : List ℕ) → Filed old mid blocks replies → Puts mid new block reply → Filed old new (blocks ++ block) (replies ++ reply)
 Filed-then old mid new blocks replies block reply f p = record {
   file = Holds-then (old cert) (mid cert) (new cert) blocks block f.file p.file;
-  out = Appends-then (old dash) (mid dash) (new dash) replies reply f.out p.out;
+  out = Extends-then (old dash) (mid dash) (new dash) replies reply f.out p.out;
   others = λ name a b. p.others name a b ∙ f.others name a b;
 }
 
@@ -57,7 +55,7 @@ Filed-in_block old mid new blocks replies block f p = record {
   back = p.file.1;
   split = p.file.2;
   file = Holds-then (old cert) (mid cert) (new cert) blocks p.file.0 f.file p.file.3;
-  out = subst (λ (o : Option (List ℕ)). Appends (old dash) o replies) (sym p.out) f.out;
+  out = subst (λ (o : Option (List ℕ)). Extends (old dash) o replies) (sym p.out) f.out;
   others = λ name a b. p.others name a b ∙ f.others name a b;
 }
 
@@ -67,7 +65,7 @@ Filed-in_reply old mid new blocks replies block reply f p = record {
   back = p.out.1;
   split = p.out.2;
   file = Holds-then (old cert) (mid cert) (new cert) blocks block f.file p.file;
-  out = Appends-then (old dash) (mid dash) (new dash) replies p.out.0 f.out p.out.3;
+  out = Extends-then (old dash) (mid dash) (new dash) replies p.out.0 f.out p.out.3;
   others = λ name a b. p.others name a b ∙ f.others name a b;
 }
 

@@ -2,12 +2,11 @@
 use Rattle.std.proofs.Common.{◌≡◌, ◌≢◌, ℕ, ◌+◌, ◌-◌, ◌<◌, ◌≤◌, true, List, [], ◌∷◌, ◌++◌, length, drop, get_or, Option, Some, None, Result, Ok, Err, refl, sym, ap, subst, ◌∙◌, arith, append_assoc, length-append, inl, inr}
 use Rattle.std.proofs.lemmas.Bool.{and_parts, and_from}
 use Rattle.std.proofs.lemmas.List.{append-nil, drop_more, drop_all, length_push}
-use Rattle.std.specs.Io.KnownBytes.{Appends}
 use Rattle.fm_base.specs.declared.refusal.Refusal.{Refusal}
 use Rattle.fm_sexp.specs.Items.{all_within, spans_within}
 use Rattle.fm_sexp.specs.declared.items.Sexp.{Sexp}
 use Rattle.fm_cert.specs.Spelling.{header}
-use Rattle.fm_files.specs.Seen.{Seen, NoFault, HasRoom, Holds}
+use Rattle.fm_files.specs.Seen.{Extends, Seen, NoFault, HasRoom, Holds}
 use Rattle.fmf.specs.Answers.{Answers, refusal_reply}
 use Rattle.fmf.specs.Executed.{Run, before, with_command, with_next, next_of, executed_from}
 use Rattle.fmf.specs.InForce.{declared_by}
@@ -15,7 +14,8 @@ use Rattle.fmf.specs.Outputs.{Refused, Answered, AnsweredAll, FitIn}
 use Rattle.fmf.specs.Scopes.{Told, Declared, nothing, declared_after, is_in_order, are_in_order}
 use Rattle.fmf.specs.Words.{dash, cert}
 use Rattle.fmf.specs.declared.status.Status.{Status}
-use Rattle.fmf.proofs.Filings.{Appends-then, cert≢dash, HasRoom-less}
+use Rattle.fm_files.proofs.Pieces.{Extends-then}
+use Rattle.fmf.proofs.Filings.{cert≢dash, HasRoom-less}
 use Rattle.fmf.proofs.Reaching.{Reached}
 use Rattle.fmf.proofs.Stepping.{declared_by-push}
 
@@ -146,7 +146,7 @@ answered_refusal run past refusal old mid new Status.Script e r h =
       answers = subst (λ (cs : List Told). Answers [] cs r.blocks r.replies) (sym commands) r.answers;
       filed = record {
         file = subst (λ (o : Option (List ℕ)). Holds (old.written cert) o (header ++ r.blocks)) (sym (h.others cert cert≢dash)) r.filed.file;
-        out = Appends-then (old.written dash) (mid.written dash) (new.written dash) r.replies (refusal_reply refusal) r.filed.out h.out;
+        out = Extends-then (old.written dash) (mid.written dash) (new.written dash) r.replies (refusal_reply refusal) r.filed.out h.out;
         others = λ name a b. h.others name b ∙ r.filed.others name a b;
       };
     }
@@ -163,7 +163,7 @@ answered_refusal run past refusal old mid new Status.WriteFault e r h =
         back = h.out.1;
         split = h.out.2;
         file = subst (λ (o : Option (List ℕ)). Holds (old.written cert) o (header ++ r.blocks)) (sym (h.others cert cert≢dash)) r.filed.file;
-        out = Appends-then (old.written dash) (mid.written dash) (new.written dash) r.replies h.out.0 r.filed.out h.out.3;
+        out = Extends-then (old.written dash) (mid.written dash) (new.written dash) r.replies h.out.0 r.filed.out h.out.3;
         others = λ name a b. h.others name b ∙ r.filed.others name a b;
       };
     }))))
@@ -178,7 +178,7 @@ answered_refusal run past refusal old mid new Status.Memory e r h =
       answers = r.answers;
       filed = record {
         file = subst (λ (o : Option (List ℕ)). Holds (old.written cert) o (header ++ r.blocks)) (sym (h cert)) r.filed.file;
-        out = subst (λ (o : Option (List ℕ)). Appends (old.written dash) o r.replies) (sym (h dash)) r.filed.out;
+        out = subst (λ (o : Option (List ℕ)). Extends (old.written dash) o r.replies) (sym (h dash)) r.filed.out;
         others = λ name a b. h name ∙ r.filed.others name a b;
       };
     })))

@@ -1,7 +1,6 @@
 -- What one call of the command's phases writes.
 use Rattle.std.specs.Prelude.{◌≡◌, ℕ, ◌-◌, ◌⊎◌, List, length}
-use Rattle.std.specs.Io.KnownBytes.{Appends}
-use Rattle.fm_files.specs.Seen.{Seen, AppendsPart, NoFault, HasRoom, Rose}
+use Rattle.fm_files.specs.Seen.{Extends, Seen, ExtendsPart, NoFault, HasRoom, Rose}
 use Rattle.fmf.specs.Answers.{count_checks, count_clauses, falsity_in}
 use Rattle.fmf.specs.InForce.{declared_by}
 use Rattle.fmf.specs.Outputs.{Written, Others}
@@ -11,20 +10,20 @@ use Rattle.fmf.specs.declared.answers.Standing.{Standing}
 
 -- a block was added to the certificate's file and a reply to the output
 pub record Puts (old new : Written) (block reply : List ℕ) : Type 0 where
-  pub file : Appends (old cert) (new cert) block
-  pub out : Appends (old dash) (new dash) reply
+  pub file : Extends (old cert) (new cert) block
+  pub out : Extends (old dash) (new dash) reply
   pub others : Others old new
 
 -- a front of the block was added, and nothing to the output
 pub record PutsInBlock (old new : Written) (block : List ℕ) : Type 0 where
-  pub file : AppendsPart (old cert) (new cert) block
+  pub file : ExtendsPart (old cert) (new cert) block
   pub out : new dash ≡ old dash
   pub others : Others old new
 
 -- the block was added, and a front of the reply
 pub record PutsInReply (old new : Written) (block reply : List ℕ) : Type 0 where
-  pub file : Appends (old cert) (new cert) block
-  pub out : AppendsPart (old dash) (new dash) reply
+  pub file : Extends (old cert) (new cert) block
+  pub out : ExtendsPart (old dash) (new dash) reply
   pub others : Others old new
 
 abbrev pub PutsPart : Written → Written → List ℕ → List ℕ → Type 0

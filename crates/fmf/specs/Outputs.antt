@@ -1,9 +1,9 @@
 -- What a run of `solve` leaves behind, by its status.
 use Rattle.std.specs.Prelude.{◌≡◌, ◌≢◌, ℕ, ◌+◌, ◌<◌, ◌≤◌, ◌⊎◌, List, [], ◌∷◌, ◌++◌, length, Option, Some, None, true}
-use Rattle.std.specs.Io.KnownBytes.{Consumes, Appends, IsAtEnd}
+use Rattle.std.specs.Io.KnownBytes.{Consumes, IsAtEnd}
 use Rattle.fm_base.specs.declared.refusal.Reason.{Reason}
 use Rattle.fm_base.specs.declared.refusal.Refusal.{Refusal}
-use Rattle.fm_files.specs.Seen.{Seen, SameByName, Holds, AppendsPart, NoFault, HasRoom}
+use Rattle.fm_files.specs.Seen.{Extends, Seen, SameByName, Holds, ExtendsPart, NoFault, HasRoom}
 use Rattle.fm_sexp.specs.Items.{ReadsAs, IsRefused}
 use Rattle.fm_sexp.specs.declared.items.Sexp.{Sexp}
 use Rattle.fmf.specs.Executed.{Run, executed_from}
@@ -34,7 +34,7 @@ Others old new = (name : List ℕ) → name ≢ cert → name ≢ dash → new n
 -- the certificate's file is these blocks, and the output grew by these replies
 pub record Filed (old new : Written) (blocks replies : List ℕ) : Type 0 where
   pub file : Holds (old cert) (new cert) blocks
-  pub out : Appends (old dash) (new dash) replies
+  pub out : Extends (old dash) (new dash) replies
   pub others : Others old new
 
 -- the certificate's file is these blocks and a front of the next one, whose reply isn't begun
@@ -43,7 +43,7 @@ pub record CutInBlock (old new : Written) (blocks replies block : List ℕ) : Ty
   pub back : List ℕ
   pub split : block ≡ front ++ back
   pub file : Holds (old cert) (new cert) (blocks ++ front)
-  pub out : Appends (old dash) (new dash) replies
+  pub out : Extends (old dash) (new dash) replies
   pub others : Others old new
 
 -- the certificate's file is these blocks, the last one whole, and the output has a front of the last reply
@@ -52,7 +52,7 @@ pub record CutInReply (old new : Written) (blocks replies reply : List ℕ) : Ty
   pub back : List ℕ
   pub split : reply ≡ front ++ back
   pub file : Holds (old cert) (new cert) blocks
-  pub out : Appends (old dash) (new dash) (replies ++ front)
+  pub out : Extends (old dash) (new dash) (replies ++ front)
   pub others : Others old new
 
 -- the first commands were answered, and nothing of the next
@@ -121,12 +121,12 @@ Answered run old new Status.Memory = Stopped run old new
 
 -- the output grew by this text, and nothing else was written
 pub record Replies (old new : Written) (reply : List ℕ) : Type 0 where
-  pub out : Appends (old dash) (new dash) reply
+  pub out : Extends (old dash) (new dash) reply
   pub others : (name : List ℕ) → name ≢ dash → new name ≡ old name
 
 -- the same cut off
 pub record RepliesPart (old new : Written) (reply : List ℕ) : Type 0 where
-  pub out : AppendsPart (old dash) (new dash) reply
+  pub out : ExtendsPart (old dash) (new dash) reply
   pub others : (name : List ℕ) → name ≢ dash → new name ≡ old name
 
 -- the script was refused

@@ -1,6 +1,5 @@
 use Rattle.std.proofs.Common.{◌≡◌, List, ℕ, ◌++◌, length}
-use Rattle.std.specs.Io.KnownBytes.{Appends}
-use Rattle.fm_files.specs.Seen.{WritesAt, NoFault, HasRoom, lowered}
+use Rattle.fm_files.specs.Seen.{Extends, WritesAt, NoFault, HasRoom, lowered}
 use Rattle.fm_files.proofs.whole.write_all_of.Given as goal
 
 abbrev pub invariant-loop-rest : goal.invariant-loop-rest
@@ -8,8 +7,9 @@ invariant-loop-rest g l =
     record {
       front : List ℕ;
       split : l.bytes ≡ front ++ l.rest;
-      added : Appends ((g.F.Files.seen l.fn.files).written l.name) ((g.F.Files.seen l.files).written l.name) front;
+      added : Extends ((g.F.Files.seen l.fn.files).written l.name) ((g.F.Files.seen l.files).written l.name) front;
       leaves : WritesAt (g.F.Files.seen l.fn.files) (g.F.Files.seen l.files) l.name;
+      quiet : NoFault (g.F.Files.seen l.fn.files) (g.F.Files.seen l.files);
       roomy : HasRoom ((g.F.Files.seen l.fn.files).room l.name) (length l.bytes) → HasRoom ((g.F.Files.seen l.files).room l.name) (length l.rest) × ((g.F.Files.seen l.files).room l.name ≡ lowered ((g.F.Files.seen l.fn.files).room l.name) (length front)) × NoFault (g.F.Files.seen l.fn.files) (g.F.Files.seen l.files);
     }
 

@@ -1,9 +1,9 @@
-use Rattle.std.proofs.Common.{ap, ◌≡◌, ℕ, List, arith, subst, true, false}
+use Rattle.std.proofs.Common.{ap, ◌≡◌, ℕ, List, arith, subst, true, false, refl, is_some}
 use Rattle.std.proofs.lemmas.Map.Text.{text_keys}
 use Rattle.std.specs.BTreeMap.{get_by_text}
 use Rattle.fm_files.specs.Memory.{is_nil}
-use Rattle.fm_files.specs.Entries.{free_at}
-use Rattle.fm_files.proofs.Looked.{OneChanged, leaves_write}
+use Rattle.fm_files.specs.Entries.{free_at, reads_at, writes_at}
+use Rattle.fm_files.proofs.Looked.{OneChanged, leaves_write, same_of}
 use Rattle.fm_files.proofs.Steps.{roomy_append, adds_entry, quiet_write}
 use Rattle.fm_files.proofs.mem.MemFilesFiles.append.Goals as goal
 
@@ -36,3 +36,21 @@ returns-in-Some-clause-free c =
     let h : OneChanged (get_by_text c.args.self.now.entries) (get_by_text (c.get_mut.follows.lender c.append.new.self)) c.args.name.now c.in-Some.entry.now c.append.new.self =
     record { was = grind (arith, text_keys); is = grind (arith, text_keys); others = λ q ne. grind (arith, text_keys) } in
     λ q ne. ap free_at (h.others q ne)
+
+pub returns-in-Some-clause-known : goal.returns-in-Some-clause-known
+returns-in-Some-clause-known c =
+    let h : OneChanged (get_by_text c.args.self.now.entries) (get_by_text (c.get_mut.follows.lender c.append.new.self)) c.args.name.now c.in-Some.entry.now c.append.new.self =
+    record { was = grind (arith, text_keys); is = grind (arith, text_keys); others = λ q ne. grind (arith, text_keys) } in
+    same_of is_some _ _ _ _ _ h refl
+
+pub returns-in-Some-clause-alone : goal.returns-in-Some-clause-alone
+returns-in-Some-clause-alone c = λ q ne known.
+    let h : OneChanged (get_by_text c.args.self.now.entries) (get_by_text (c.get_mut.follows.lender c.append.new.self)) c.args.name.now c.in-Some.entry.now c.append.new.self =
+    record { was = grind (arith, text_keys); is = grind (arith, text_keys); others = λ q ne. grind (arith, text_keys) } in
+    ap (writes_at c.args.self.now.other_write_faults) (h.others q ne)
+
+pub returns-in-Some-clause-reads : goal.returns-in-Some-clause-reads
+returns-in-Some-clause-reads c =
+    let h : OneChanged (get_by_text c.args.self.now.entries) (get_by_text (c.get_mut.follows.lender c.append.new.self)) c.args.name.now c.in-Some.entry.now c.append.new.self =
+    record { was = grind (arith, text_keys); is = grind (arith, text_keys); others = λ q ne. grind (arith, text_keys) } in
+    same_of (reads_at c.args.self.now.other_read_faults) _ _ _ _ _ h c.append.ensures.reads
