@@ -2,6 +2,7 @@
 -- shape comes before a numeral that is too wide.
 use Rattle.std.specs.Prelude.{◌≡◌, ℕ, ◌+◌, ◌-◌, ◌*◌, ◌^◌, Bool, false, ◌&&◌, ◌||◌, nat_lt, cond, List, [], ◌∷◌, slice_range, Option, Some, None, is_some, Result, Ok, Err, codes}
 use Rattle.std.specs.List.{list_all}
+use Rattle.std.specs.Option.{option_map}
 use Rattle.std.specs.Str.{bytes_eq}
 use Rattle.fm_base.specs.declared.refusal.Fail.{Fail}
 use Rattle.fm_base.specs.declared.refusal.Place.{Place}
@@ -12,8 +13,9 @@ use Rattle.fm_sexp.specs.declared.items.Sexp.{Sexp}
 use Rattle.fm_sexp.specs.declared.items.Sexp.TheOpen.{Sexp-F}
 use Rattle.fm_sexp.specs.declared.items.Sexp.TheViews.{out-Sexp}
 use Rattle.fm_sexp.specs.declared.pieces.Kind.{Kind}
-use Rattle.fm_script.specs.Shown.{Shown, Name, Numeral, shown}
+use Rattle.fm_script.specs.Shown.{Shown, Name, Numeral, numeral_shown, shown}
 use Rattle.fm_script.specs.declared.command.Command.{Command}
+use Rattle.fm_script.specs.declared.command.Number.{Number}
 
 abbrev pub Read : Type 0
 Read = Result Shown Refusal
@@ -38,14 +40,7 @@ place_of_item x = place_step (out-Sexp x)
 -- a symbol as it stands, which may be reserved
 abbrev pub symbol_step : List ℕ → Sexp-F Sexp → Option (List ℕ)
 symbol_step text (Sexp-F.Word Kind.Symbol start end at) = Some (slice_range text start end)
-symbol_step text (Sexp-F.Word Kind.Quoted start end at) = None
-symbol_step text (Sexp-F.Word Kind.Keyword start end at) = None
-symbol_step text (Sexp-F.Word Kind.Numeral start end at) = None
-symbol_step text (Sexp-F.Word Kind.Decimal start end at) = None
-symbol_step text (Sexp-F.Word Kind.Hex start end at) = None
-symbol_step text (Sexp-F.Word Kind.Binary start end at) = None
-symbol_step text (Sexp-F.Word Kind.Text start end at) = None
-symbol_step text (Sexp-F.List items start end at) = None
+symbol_step text _ = None
 
 abbrev pub symbol_of : List ℕ → Sexp → Option (List ℕ)
 symbol_of text x = symbol_step text (out-Sexp x)
@@ -54,27 +49,14 @@ symbol_of text x = symbol_step text (out-Sexp x)
 abbrev pub name_step : List ℕ → Sexp-F Sexp → Option Name
 name_step text (Sexp-F.Word Kind.Symbol start end at) = cond (is_reserved (slice_range text start end)) None (Some (record { bytes = slice_range text start end; at = at }))
 name_step text (Sexp-F.Word Kind.Quoted start end at) = Some (record { bytes = slice_range text (start + 1) (end - 1); at = at })
-name_step text (Sexp-F.Word Kind.Keyword start end at) = None
-name_step text (Sexp-F.Word Kind.Numeral start end at) = None
-name_step text (Sexp-F.Word Kind.Decimal start end at) = None
-name_step text (Sexp-F.Word Kind.Hex start end at) = None
-name_step text (Sexp-F.Word Kind.Binary start end at) = None
-name_step text (Sexp-F.Word Kind.Text start end at) = None
-name_step text (Sexp-F.List items start end at) = None
+name_step text _ = None
 
 abbrev pub name_of : List ℕ → Sexp → Option Name
 name_of text x = name_step text (out-Sexp x)
 
 abbrev pub keyword_step : List ℕ → Sexp-F Sexp → Option Name
 keyword_step text (Sexp-F.Word Kind.Keyword start end at) = Some (record { bytes = slice_range text start end; at = at })
-keyword_step text (Sexp-F.Word Kind.Symbol start end at) = None
-keyword_step text (Sexp-F.Word Kind.Quoted start end at) = None
-keyword_step text (Sexp-F.Word Kind.Numeral start end at) = None
-keyword_step text (Sexp-F.Word Kind.Decimal start end at) = None
-keyword_step text (Sexp-F.Word Kind.Hex start end at) = None
-keyword_step text (Sexp-F.Word Kind.Binary start end at) = None
-keyword_step text (Sexp-F.Word Kind.Text start end at) = None
-keyword_step text (Sexp-F.List items start end at) = None
+keyword_step text _ = None
 
 abbrev pub keyword_of : List ℕ → Sexp → Option Name
 keyword_of text x = keyword_step text (out-Sexp x)
@@ -82,14 +64,7 @@ keyword_of text x = keyword_step text (out-Sexp x)
 -- a string literal, with its quotes
 abbrev pub literal_step : List ℕ → Sexp-F Sexp → Option Name
 literal_step text (Sexp-F.Word Kind.Text start end at) = Some (record { bytes = slice_range text start end; at = at })
-literal_step text (Sexp-F.Word Kind.Symbol start end at) = None
-literal_step text (Sexp-F.Word Kind.Quoted start end at) = None
-literal_step text (Sexp-F.Word Kind.Keyword start end at) = None
-literal_step text (Sexp-F.Word Kind.Numeral start end at) = None
-literal_step text (Sexp-F.Word Kind.Decimal start end at) = None
-literal_step text (Sexp-F.Word Kind.Hex start end at) = None
-literal_step text (Sexp-F.Word Kind.Binary start end at) = None
-literal_step text (Sexp-F.List items start end at) = None
+literal_step text _ = None
 
 abbrev pub literal_of : List ℕ → Sexp → Option Name
 literal_of text x = literal_step text (out-Sexp x)
@@ -97,14 +72,7 @@ literal_of text x = literal_step text (out-Sexp x)
 -- the digits of a numeral
 abbrev pub digits_step : List ℕ → Sexp-F Sexp → Option Name
 digits_step text (Sexp-F.Word Kind.Numeral start end at) = Some (record { bytes = slice_range text start end; at = at })
-digits_step text (Sexp-F.Word Kind.Symbol start end at) = None
-digits_step text (Sexp-F.Word Kind.Quoted start end at) = None
-digits_step text (Sexp-F.Word Kind.Keyword start end at) = None
-digits_step text (Sexp-F.Word Kind.Decimal start end at) = None
-digits_step text (Sexp-F.Word Kind.Hex start end at) = None
-digits_step text (Sexp-F.Word Kind.Binary start end at) = None
-digits_step text (Sexp-F.Word Kind.Text start end at) = None
-digits_step text (Sexp-F.List items start end at) = None
+digits_step text _ = None
 
 abbrev pub digits_of : List ℕ → Sexp → Option Name
 digits_of text x = digits_step text (out-Sexp x)
@@ -269,23 +237,28 @@ assert_of at [] = Err (bad_shape at)
 assert_of at (t ∷ []) = Ok (Shown.Assert at t)
 assert_of at (t ∷ x ∷ xs) = Err (bad_shape at)
 
-abbrev pub push : Place → Option Name → Read
-push at None = Err (bad_shape at)
-push at (Some digits) = with_numeral digits (λ n. Shown.Push at (Some n))
+-- the levels of a `push` or a `pop`: one where no numeral stands there
+abbrev pub numeral_in : Name → Result (Option Numeral) Refusal
+numeral_in digits = cond (nat_lt (value_of digits.bytes) (2 ^ 64)) (Ok (Some (record { value = value_of digits.bytes; at = digits.at }))) (Err (too_wide digits.at))
+
+abbrev pub levels : Place → Option Name → Result (Option Numeral) Refusal
+levels at None = Err (bad_shape at)
+levels at (Some digits) = numeral_in digits
+
+abbrev pub levels_of : List ℕ → Place → List Sexp → Result (Option Numeral) Refusal
+levels_of text at [] = Ok None
+levels_of text at (n ∷ []) = levels at (digits_of text n)
+levels_of text at (n ∷ x ∷ xs) = Err (bad_shape at)
+
+abbrev pub with_levels : Result (Option Numeral) Refusal → (Option Numeral → Shown) → Read
+with_levels (Ok n) go = Ok (go n)
+with_levels (Err refusal) go = Err refusal
 
 abbrev pub push_of : List ℕ → Place → List Sexp → Read
-push_of text at [] = Ok (Shown.Push at None)
-push_of text at (n ∷ []) = push at (digits_of text n)
-push_of text at (n ∷ x ∷ xs) = Err (bad_shape at)
-
-abbrev pub pop : Place → Option Name → Read
-pop at None = Err (bad_shape at)
-pop at (Some digits) = with_numeral digits (λ n. Shown.Pop at (Some n))
+push_of text at parts = with_levels (levels_of text at parts) (λ n. Shown.Push at n)
 
 abbrev pub pop_of : List ℕ → Place → List Sexp → Read
-pop_of text at [] = Ok (Shown.Pop at None)
-pop_of text at (n ∷ []) = pop at (digits_of text n)
-pop_of text at (n ∷ x ∷ xs) = Err (bad_shape at)
+pop_of text at parts = with_levels (levels_of text at parts) (λ n. Shown.Pop at n)
 
 -- a command without parts
 abbrev pub alone : Place → Shown → List Sexp → Read
@@ -358,3 +331,9 @@ abbrev pub IsAnswer : Result Command Fail → Read → Type 0
 IsAnswer (Ok command) read = read ≡ Ok (shown command)
 IsAnswer (Err (Fail.Refused refusal)) read = read ≡ Err refusal
 IsAnswer (Err Fail.Memory) read = Unit {0}
+
+-- the same of the levels of a `push` or a `pop`
+abbrev pub AreLevels : Result (Option Number) Fail → Result (Option Numeral) Refusal → Type 0
+AreLevels (Ok n) levels = levels ≡ Ok (option_map numeral_shown n)
+AreLevels (Err (Fail.Refused refusal)) levels = levels ≡ Err refusal
+AreLevels (Err Fail.Memory) levels = Unit {0}

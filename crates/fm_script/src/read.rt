@@ -2,14 +2,14 @@ ghost use Rattle.std.specs.Prelude.{◌≡◌, ℕ, ◌++◌, true, length, map,
 ghost use Rattle.std.specs.Option.{option_map};
 ghost use Rattle.fm_base.specs.declared.refusal.Fail.TheVariants as fail;
 ghost use Rattle.fm_sexp.specs.Items.{spans_within, all_within};
-ghost use Rattle.fm_script.specs.Commands.{bad_shape, unknown_command, too_wide, IsAnswer, command_of, list_command, by_head as by_head_of, by_later_head as by_later_head_of, set_logic_of, set_option_of, set_info_of, get_info_of, declare_sort_of, define_sort_of, declare_const_of, declare_fun_of, define_fun_of, assert_of, push_of, pop_of, get_value_of, echo_of, alone as alone_of, parameter_of, parameters_of};
+ghost use Rattle.fm_script.specs.Commands.{bad_shape, unknown_command, too_wide, AreLevels, IsAnswer, command_of, list_command, by_head as by_head_of, by_later_head as by_later_head_of, set_logic_of, set_option_of, set_info_of, get_info_of, declare_sort_of, define_sort_of, declare_const_of, declare_fun_of, define_fun_of, assert_of, levels_of, push_of, pop_of, get_value_of, echo_of, alone as alone_of, parameter_of, parameters_of};
 ghost use Rattle.fm_script.specs.Shown.{name_shown, shown};
 ghost use Rattle.fm_script.specs.Within.{parts_within, parameters_within};
 
-use crate::command::{Command, Part};
+use crate::command::{Command, Number, Part};
 use crate::words::{
-    are_sorts, digits, is_sort, is_switch, is_truth_name, keyword, lent, literal, members, name,
-    numeral, place, symbol,
+    are_sorts, digits, is_sort, is_switch, is_truth_name, keyword, literal, members, name, numeral,
+    place, references, symbol,
 };
 use fm_base::{Fail, Place, Reason, Refusal};
 use fm_sexp::Sexp;
@@ -266,7 +266,7 @@ fn declare_fun<'a>(
     match (name(text, first), list) {
         (Some(name), Sexp::List { items, .. })
             if are_sorts(text, items.as_slice()) && is_sort(text, sort) => {
-            let args = lent(alloc, items.as_slice())?;
+            let args = references(alloc, items.as_slice())?;
             Ok(Command::DeclareFun {
                 at,
                 name,
@@ -353,25 +353,33 @@ fn assertion<'a>(at: Place, parts: &'a [Sexp]) -> Result<Command<'a>, Fail>
     Ok(Command::Assert { at, term })
 }
 
-fn push<'a>(text: &'a [u8], at: Place, parts: &[Sexp]) -> Result<Command<'a>, Fail>
+// The levels of a `push` or a `pop`, if a numeral stands there.
+fn levels(text: &[u8], at: Place, parts: &[Sexp]) -> Result<Option<Number>, Fail>
     requires { all_within (length text.now) parts.now ≡ true }
-    ensures answer { IsAnswer result (push_of text.now at parts.now) }
-    ensures within { IfOk result (λ c. parts_within (length text.now) (shown c) ≡ true) }
+    ensures { AreLevels result (levels_of text.now at parts.now) }
 {
     let first = match parts {
-        [] => return Ok(Command::Push { at, levels: None }),
+        [] => return Ok(None),
         [first] => first,
         _ => return Err(shape_at(at)),
     };
     match digits(text, first) {
         Some(digits) => match numeral(digits) {
-            Some(levels) => Ok(Command::Push {
-                at,
-                levels: Some(levels),
-            }),
+            Some(levels) => Ok(Some(levels)),
             None => Err(wide_at(digits.at)),
         },
         None => Err(shape_at(at)),
+    }
+}
+
+fn push<'a>(text: &'a [u8], at: Place, parts: &[Sexp]) -> Result<Command<'a>, Fail>
+    requires { all_within (length text.now) parts.now ≡ true }
+    ensures answer { IsAnswer result (push_of text.now at parts.now) }
+    ensures within { IfOk result (λ c. parts_within (length text.now) (shown c) ≡ true) }
+{
+    match levels(text, at, parts) {
+        Ok(levels) => Ok(Command::Push { at, levels }),
+        Err(fail) => Err(fail),
     }
 }
 
@@ -380,24 +388,13 @@ fn pop<'a>(text: &'a [u8], at: Place, parts: &[Sexp]) -> Result<Command<'a>, Fai
     ensures answer { IsAnswer result (pop_of text.now at parts.now) }
     ensures within { IfOk result (λ c. parts_within (length text.now) (shown c) ≡ true) }
 {
-    let first = match parts {
-        [] => return Ok(Command::Pop { at, levels: None }),
-        [first] => first,
-        _ => return Err(shape_at(at)),
-    };
-    match digits(text, first) {
-        Some(digits) => match numeral(digits) {
-            Some(levels) => Ok(Command::Pop {
-                at,
-                levels: Some(levels),
-            }),
-            None => Err(wide_at(digits.at)),
-        },
-        None => Err(shape_at(at)),
+    match levels(text, at, parts) {
+        Ok(levels) => Ok(Command::Pop { at, levels }),
+        Err(fail) => Err(fail),
     }
 }
 
-/// A command without parts.
+// A command without parts.
 fn alone<'a>(at: Place, command: Command<'a>, parts: &[Sexp]) -> Result<Command<'a>, Fail>
     ensures answer { IsAnswer result (alone_of at (shown command.entry) parts.now) }
     ensures within { (n : ℕ) → parts_within n (shown command.entry) ≡ true → IfOk result (λ c. parts_within n (shown c) ≡ true) }
@@ -419,7 +416,7 @@ fn get_value<'a>(alloc: Global, at: Place, parts: &'a [Sexp]) -> Result<Command<
     if items.is_empty() {
         return Err(shape_at(at));
     }
-    let terms = lent(alloc, items.as_slice())?;
+    let terms = references(alloc, items.as_slice())?;
     Ok(Command::GetValue { at, terms })
 }
 

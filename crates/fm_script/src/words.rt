@@ -19,8 +19,8 @@ fn bytes_of(text: &[u8], start: usize, end: usize) -> &[u8]
     &text[start..end]
 }
 
-/// The bytes of a symbol, reserved or not.
-pub fn symbol<'a>(text: &'a [u8], item: &Sexp) -> Option<&'a [u8]>
+// The bytes of a symbol, reserved or not.
+pub(crate) fn symbol<'a>(text: &'a [u8], item: &Sexp) -> Option<&'a [u8]>
     requires { spans_within (length text.now) item.now ≡ true }
     ensures { option_map (λ s. s.now) result ≡ symbol_of text.now item.now }
 {
@@ -67,7 +67,8 @@ pub fn name<'a>(text: &'a [u8], item: &Sexp) -> Option<Part<'a>>
     }
 }
 
-pub fn keyword<'a>(text: &'a [u8], item: &Sexp) -> Option<Part<'a>>
+// A keyword, with its colon.
+pub(crate) fn keyword<'a>(text: &'a [u8], item: &Sexp) -> Option<Part<'a>>
     requires { spans_within (length text.now) item.now ≡ true }
     ensures { option_map name_shown result ≡ keyword_of text.now item.now }
 {
@@ -85,8 +86,8 @@ pub fn keyword<'a>(text: &'a [u8], item: &Sexp) -> Option<Part<'a>>
     }
 }
 
-/// A string literal, with its quotes.
-pub fn literal<'a>(text: &'a [u8], item: &Sexp) -> Option<Part<'a>>
+// A string literal, with its quotes.
+pub(crate) fn literal<'a>(text: &'a [u8], item: &Sexp) -> Option<Part<'a>>
     requires { spans_within (length text.now) item.now ≡ true }
     ensures { option_map name_shown result ≡ literal_of text.now item.now }
 {
@@ -104,8 +105,8 @@ pub fn literal<'a>(text: &'a [u8], item: &Sexp) -> Option<Part<'a>>
     }
 }
 
-/// The digits of a numeral.
-pub fn digits<'a>(text: &'a [u8], item: &Sexp) -> Option<Part<'a>>
+// The digits of a numeral.
+pub(crate) fn digits<'a>(text: &'a [u8], item: &Sexp) -> Option<Part<'a>>
     requires { spans_within (length text.now) item.now ≡ true }
     ensures { option_map name_shown result ≡ digits_of text.now item.now }
 {
@@ -144,15 +145,16 @@ pub fn place(item: &Sexp) -> Place
     }
 }
 
-/// What stands for a sort in a shape: a name or a list.
-pub fn is_sort(text: &[u8], item: &Sexp) -> bool
+// What stands for a sort in a shape: a name or a list.
+pub(crate) fn is_sort(text: &[u8], item: &Sexp) -> bool
     requires { spans_within (length text.now) item.now ≡ true }
     ensures { result ≡ is_sort_of text.now item.now }
 {
     name(text, item).is_some() || members(item).is_some()
 }
 
-pub fn are_sorts(text: &[u8], items: &[Sexp]) -> bool
+// Whether each of the items stands for a sort.
+pub(crate) fn are_sorts(text: &[u8], items: &[Sexp]) -> bool
     requires { all_within (length text.now) items.now ≡ true }
     ensures { result ≡ list_all (is_sort_of text.now) items.now }
 {
@@ -164,7 +166,7 @@ pub fn are_sorts(text: &[u8], items: &[Sexp]) -> bool
     true
 }
 
-/// One more decimal digit, where the number stays below 2^64.
+// One more decimal digit, where the number stays below 2^64.
 fn with_digit(sum: u64, digit: u8) -> Option<u64>
     ensures { result ≡ fitting (sum * 10 + (digit - 48)) }
 {
@@ -172,6 +174,7 @@ fn with_digit(sum: u64, digit: u8) -> Option<u64>
     tens.checked_add(u64::from(digit.saturating_sub(48)))
 }
 
+// The number that decimal digits say, where it is below 2^64.
 fn number_value(digits: &[u8]) -> Option<u64>
     ensures { result ≡ fitting (value_of digits.now) }
 {
@@ -185,8 +188,8 @@ fn number_value(digits: &[u8]) -> Option<u64>
     Some(sum)
 }
 
-/// The number that the digits say, where it is below 2^64.
-pub fn numeral(digits: Part) -> Option<Number>
+// The number that the digits say, where it is below 2^64.
+pub(crate) fn numeral(digits: Part) -> Option<Number>
     ensures { option_map numeral_shown result ≡ numeral_of (name_shown digits.entry) }
 {
     match number_value(digits.bytes) {
@@ -198,8 +201,8 @@ pub fn numeral(digits: Part) -> Option<Number>
     }
 }
 
-/// The options whose item is `true` or `false`.
-pub fn is_switch(keyword: &[u8]) -> bool
+// The options whose item is `true` or `false`.
+pub(crate) fn is_switch(keyword: &[u8]) -> bool
     ensures { result ≡ is_switch_of keyword.now }
 {
     keyword == b":print-success".as_slice()
@@ -208,8 +211,8 @@ pub fn is_switch(keyword: &[u8]) -> bool
         || keyword == b":finite-model-find".as_slice()
 }
 
-/// The name `true` or `false`.
-pub fn is_truth_name(text: &[u8], item: &Sexp) -> bool
+// The name `true` or `false`.
+pub(crate) fn is_truth_name(text: &[u8], item: &Sexp) -> bool
     requires { spans_within (length text.now) item.now ≡ true }
     ensures { result ≡ is_truth_of (name_of text.now item.now) }
 {
@@ -219,8 +222,8 @@ pub fn is_truth_name(text: &[u8], item: &Sexp) -> bool
     }
 }
 
-/// The items, lent.
-pub fn lent<'a>(alloc: Global, items: &'a [Sexp]) -> Result<Vec<&'a Sexp>, AllocError>
+// References to the items.
+pub(crate) fn references<'a>(alloc: Global, items: &'a [Sexp]) -> Result<Vec<&'a Sexp>, AllocError>
     ensures { IfOk result (λ v. map (λ i. i.now) v.items ≡ items.now) }
 {
     let mut list = Vec::new(alloc);

@@ -30,11 +30,11 @@ joined_push (xs ∷ xss) ys = ap (λ (r : List Token). xs ++ r) (joined_push xss
 pub flat_all_push : (xs : List Sexp) (x : Sexp) → flat_all (xs ++ x ∷ []) ≡ flat_all xs ++ flat x
 flat_all_push xs x = ap joined (map_push flat xs x) ∙ joined_push (map flat xs) (flat x)
 
-pub before_all_push : (fs : List Frame) (f : Frame) → before_all (fs ++ f ∷ []) ≡ before_all fs ++ (flat_all f.before ++ Token.Opened f.start f.at ∷ [])
+pub before_all_push : (fs : List Frame) (f : Frame) → before_all (fs ++ f ∷ []) ≡ before_all fs ++ (flat_all f.before.items ++ Token.Opened f.start f.at ∷ [])
 before_all_push [] f = refl
 before_all_push (g ∷ fs) f =
-    ap (λ (r : List Token). flat_all g.before ++ Token.Opened g.start g.at ∷ r) (before_all_push fs f)
-    ∙ sym (append_assoc (flat_all g.before) (Token.Opened g.start g.at ∷ before_all fs) (flat_all f.before ++ Token.Opened f.start f.at ∷ []))
+    ap (λ (r : List Token). flat_all g.before.items ++ Token.Opened g.start g.at ∷ r) (before_all_push fs f)
+    ∙ sym (append_assoc (flat_all g.before.items) (Token.Opened g.start g.at ∷ before_all fs) (flat_all f.before.items ++ Token.Opened f.start f.at ∷ []))
 
 -- a word is added behind some tokens
 pub worded : (bs : List Token) (cur new : List Sexp) (x : Sexp) (t : Token) → new ≡ cur ++ x ∷ [] → flat x ≡ t ∷ [] → bs ++ flat_all new ≡ (bs ++ flat_all cur) ++ t ∷ []
@@ -47,6 +47,6 @@ pub closed : (bs : List Token) (before cur : List Sexp) (s e : ℕ) (at : Place)
     → bs ++ flat_all (before ++ TheViews.List cur s e at ∷ []) ≡ ((bs ++ (flat_all before ++ Token.Opened s at ∷ [])) ++ flat_all cur) ++ Token.Closed e ∷ []
 closed bs before cur s e at = rw (flat_all_push, flat_list) (simp append_assoc)
 
-pub closed_to : (fs old : List Frame) (f : Frame) (cur dest items new : List Sexp) (e : ℕ) → old ≡ fs ++ f ∷ [] → dest ≡ f.before → items ≡ cur
+pub closed_to : (fs old : List Frame) (f : Frame) (cur dest items new : List Sexp) (e : ℕ) → old ≡ fs ++ f ∷ [] → dest ≡ f.before.items → items ≡ cur
     → new ≡ dest ++ TheViews.List items f.start e f.at ∷ [] → before_all fs ++ flat_all new ≡ (before_all old ++ flat_all cur) ++ Token.Closed e ∷ []
-closed_to fs old f cur dest items new e popped after value pushed = rw (pushed, after, value, popped, before_all_push) (closed (before_all fs) f.before cur f.start e f.at)
+closed_to fs old f cur dest items new e popped after value pushed = rw (pushed, after, value, popped, before_all_push) (closed (before_all fs) f.before.items cur f.start e f.at)

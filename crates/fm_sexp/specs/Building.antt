@@ -17,10 +17,10 @@ IsStopped d shape _ = ⊥
 -- the words and parentheses that the open lists hold
 abbrev pub before_all : List Frame → List Token
 before_all [] = []
-before_all (f ∷ fs) = flat_all f.before ++ Token.Opened f.start f.at ∷ before_all fs
+before_all (f ∷ fs) = flat_all f.before.items ++ Token.Opened f.start f.at ∷ before_all fs
 
 abbrev pub so_far : Builder → List Token
-so_far b = before_all b.frames.items ++ flat_all b.current
+so_far b = before_all b.frames.items ++ flat_all b.current.items
 
 -- the words and parentheses of the whole pieces up to a place
 pub record IsReadTo (text : List ℕ) (to : ℕ) (depth : ℕ) (read : List Token) : Type 0 where

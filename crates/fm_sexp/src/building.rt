@@ -1,4 +1,4 @@
-ghost use Rattle.std.specs.Prelude.{◌≡◌, ℕ, ◌+◌, ◌<◌, ◌≤◌, ◌^◌, List, [], ◌∷◌, ◌++◌, length, OnOk, IfOk, IfErr, Some};
+ghost use Rattle.std.specs.Prelude.{◌≡◌, ◌+◌, ◌<◌, ◌≤◌, ◌^◌, List, [], ◌∷◌, ◌++◌, length, OnOk, IfSome, IfNone, Some, is_some, true};
 ghost use Rattle.fm_sexp.specs.Pieces.{depth_with};
 ghost use Rattle.fm_sexp.specs.Items.{Token, token_of};
 ghost use Rattle.fm_sexp.specs.Building.{IsStopped, so_far};
@@ -13,35 +13,35 @@ use std::mem;
 // The greatest number of open parentheses.
 const DEPTH_LIMIT: usize = 200;
 
-// The depth behind a piece, or why it can't follow.
-pub(crate) fn next_depth(depth: usize, shape: Shape) -> Result<usize, Reason>
+// Why a piece can't follow at a depth, if it can't.
+pub(crate) fn stop_at(depth: usize, shape: Shape) -> Option<Reason>
     requires { depth ≤ 200 }
-    ensures ok { IfOk result (λ d. depth_with depth shape ≡ Some d) }
-    ensures err { IfErr result (λ reason. IsStopped depth shape reason) }
+    ensures some { IfSome result (λ reason. IsStopped depth shape reason) }
+    ensures none { IfNone result (is_some (depth_with depth shape) ≡ true) }
 {
     match shape {
         Shape::Open => {
             if depth < DEPTH_LIMIT {
-                Ok(depth + 1)
+                None
             } else {
-                Err(Reason::TooDeep)
+                Some(Reason::TooDeep)
             }
         }
         Shape::Close => {
             if depth > 0 {
-                Ok(depth - 1)
+                None
             } else {
-                Err(Reason::Unbalanced)
+                Some(Reason::Unbalanced)
             }
         }
-        Shape::Blank | Shape::Comment | Shape::Word(_) => Ok(depth),
+        Shape::Blank | Shape::Comment | Shape::Word(_) => None,
     }
 }
 
 // What stands before a list that is open, in the list around it; and where that list began.
 #[derive(Drop)]
 pub(crate) struct Frame {
-    pub before: Items<Sexp>,
+    pub before: Vec<Sexp>,
     pub start: usize,
     pub at: Place,
 }
@@ -50,7 +50,7 @@ pub(crate) struct Frame {
 #[derive(Drop)]
 pub(crate) struct Builder {
     pub frames: Vec<Frame>,
-    pub current: Items<Sexp>,
+    pub current: Vec<Sexp>,
 }
 
 impl Builder {
@@ -77,7 +77,7 @@ impl Builder {
         ensures so_far { OnOk result (so_far self.new ≡ so_far self.old ++ Token.Opened start at ∷ []) }
         ensures frames { OnOk result (length self.new.frames.items ≡ 1 + length self.old.frames.items) }
     {
-        let before = mem::replace(&mut self.current, Items::new(alloc));
+        let before = mem::replace(&mut self.current, Vec::new(alloc));
         self.frames.push(Frame { before, start, at })?;
         Ok(())
     }
@@ -88,7 +88,10 @@ impl Builder {
         ensures frames { OnOk result (1 + length self.new.frames.items ≡ length self.old.frames.items) }
     {
         if let Some(Frame { before, start, at }) = self.frames.pop() {
-            let items = mem::replace(&mut self.current, before);
+            let mut items = mem::replace(&mut self.current, before);
+            // A list has no more items, so the room for more is given back.
+            items.shrink_to_fit();
+            let items = Items::from_vec(items);
             self.current.push(Sexp::List {
                 items,
                 start,
@@ -107,7 +110,7 @@ impl Builder {
         start: usize,
         at: Place,
     ) -> Result<(), AllocError>
-        requires lawful { (d : ℕ) × (depth_with (length self.old.frames.items) piece.shape ≡ Some d) }
+        requires lawful { is_some (depth_with (length self.old.frames.items) piece.shape) ≡ true }
         requires fits { start + piece.len < 2 ^ 64 }
         ensures so_far { OnOk result (so_far self.new ≡ so_far self.old ++ token_of at start piece.len piece.shape) }
         ensures frames { OnOk result (depth_with (length self.old.frames.items) piece.shape ≡ Some (length self.new.frames.items)) }

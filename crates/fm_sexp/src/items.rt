@@ -3,7 +3,7 @@ ghost use Rattle.fm_base.specs.declared.refusal.Refusal.{Refusal as TheRefusal};
 ghost use Rattle.fm_base.specs.declared.refusal.Fail.TheVariants as fail;
 ghost use Rattle.fm_sexp.specs.Items.{ReadsAs, IsRefused};
 
-use crate::building::{Builder, next_depth};
+use crate::building::{Builder, stop_at};
 use crate::pieces::{Front, Kind, piece_at};
 use crate::places::advance;
 use fm_base::{Fail, Place, Reason, Refusal};
@@ -37,34 +37,32 @@ pub fn read_sexps(alloc: Global, text: &[u8]) -> Result<Items<Sexp>, Fail>
 {
     let mut builder = Builder {
         frames: Vec::new(alloc),
-        current: Items::new(alloc),
+        current: Vec::new(alloc),
     };
     let mut at = Place { line: 1, column: 1 };
     let mut start = 0;
     while start < text.len() {
         let (_, rest) = text.split_at(start);
-        match piece_at(rest) {
+        let piece = match piece_at(rest) {
             Front::Unclosed => return refused(Reason::UnexpectedEnd, advance(at, rest)),
             Front::Wrong(off) => {
                 let (before, _) = rest.split_at(off);
                 return refused(Reason::Lexical, advance(at, before));
             }
-            Front::Found(piece) => {
-                match next_depth(builder.depth(), piece.shape) {
-                    Err(reason) => return refused(reason, at),
-                    Ok(_) => {}
-                }
-                builder.add(alloc, piece, start, at)?;
-                let (bytes, _) = rest.split_at(piece.len);
-                at = advance(at, bytes);
-                start += piece.len;
-            }
+            Front::Found(piece) => piece,
+        };
+        if let Some(reason) = stop_at(builder.depth(), piece.shape) {
+            return refused(reason, at);
         }
+        builder.add(alloc, piece, start, at)?;
+        let (bytes, _) = rest.split_at(piece.len);
+        at = advance(at, bytes);
+        start += piece.len;
     }
     if builder.depth() > 0 {
         return refused(Reason::UnexpectedEnd, at);
     }
-    Ok(builder.current)
+    Ok(Items::from_vec(builder.current))
 }
 
 fn refused(reason: Reason, at: Place) -> Result<Items<Sexp>, Fail>

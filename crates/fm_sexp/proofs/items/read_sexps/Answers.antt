@@ -28,15 +28,15 @@ returns-in-Wrong-clause-refused c =
     (advanced text to c.in-Wrong.off c.loop-start.at c.advance-in-Wrong.result c.split_at.result.1.now c.split_at-in-Wrong.result.0.now i.place c.split_at.ensures.back c.split_at-in-Wrong.ensures.front c.advance-in-Wrong.ensures.value)
     c.refused-in-Wrong.result c.refused-in-Wrong.ensures
 
-pub returns-in-Err-clause-refused : goal.returns-in-Err-clause-refused
-returns-in-Err-clause-refused c =
+pub returns-in-Some-clause-refused : goal.returns-in-Some-clause-refused
+returns-in-Some-clause-refused c =
     let text : List ℕ = c.args.text.now in
     let to : ℕ = c.loop-start.start in
     let i = c.loop-start.invariant in
     let here : to ≡ to + 0 = omega arith in
-    let stopped = subst (λ (d : ℕ). IsStopped d c.in-Found.piece.shape c.in-Err.reason) c.depth.ensures c.in-Err.ensures.err in
-    stops text to _ _ i.read c.in-Err.reason 0 c.loop-start.at (stopped_fault _ c.in-Found.piece (drop to text) c.in-Err.reason stopped (ap piece_of (sym c.split_at.ensures.back) ∙ sym c.in-Found.ensures.value))
-    (i.place ∙ ap (place_of text) here) c.refused-in-Err.result c.refused-in-Err.ensures
+    let stopped = subst (λ (d : ℕ). IsStopped d c.in-Found.piece.shape c.in-Some.reason) c.depth.ensures c.in-Some.ensures.some in
+    stops text to _ _ i.read c.in-Some.reason 0 c.loop-start.at (stopped_fault _ c.in-Found.piece (drop to text) c.in-Some.reason stopped (ap piece_of (sym c.split_at.ensures.back) ∙ sym c.in-Found.ensures.value))
+    (i.place ∙ ap (place_of text) here) c.refused-in-Some.result c.refused-in-Some.ensures
 
 pub loop-start-preserved : goal.loop-start-preserved
 loop-start-preserved c =
@@ -46,12 +46,12 @@ loop-start-preserved c =
     let len : ℕ = c.in-Found.piece.len in
     let fits : len ≤ length c.split_at.result.1.now = c.in-Found.ensures.fits.1 in
     let left : length c.split_at.result.1.now ≡ length text - to = ap length c.split_at.ensures.back ∙ length-drop to text in
-    let bytes : length c.split_at-in-Found.result.0.now ≡ len = c.split_at-in-Found.ensures.front_len in
+    let bytes : length c.split_at-in-loop-start.result.0.now ≡ len = c.split_at-in-loop-start.ensures.front_len in
     record {
       within = omega arith;
-      shallow = shallow _ _ c.in-Found.piece.shape i.shallow c.in_ok-add-in-Found.ensures.frames;
-      place = advanced text to len c.loop-start.at c.advance-at.result c.split_at.result.1.now c.split_at-in-Found.result.0.now i.place c.split_at.ensures.back c.split_at-in-Found.ensures.front c.advance-at.ensures.value;
+      shallow = shallow _ _ c.in-Found.piece.shape i.shallow c.in_ok-add.ensures.frames;
+      place = advanced text to len c.loop-start.at c.advance-at.result c.split_at.result.1.now c.split_at-in-loop-start.result.0.now i.place c.split_at.ensures.back c.split_at-in-loop-start.ensures.front c.advance-at.ensures.value;
       line = omega (arith, c.advance-at.ensures.line);
       column = omega (arith, c.advance-at.ensures.column);
-      read = read_more text to _ _ i.read c.in-Found.piece c.loop-start.at (so_far c.add.new.self) _ (ap piece_of (sym c.split_at.ensures.back) ∙ sym c.in-Found.ensures.value) c.in_ok-add-in-Found.ensures.frames i.place c.in_ok-add-in-Found.ensures.so_far;
+      read = read_more text to _ _ i.read c.in-Found.piece c.loop-start.at (so_far c.add.new.self) _ (ap piece_of (sym c.split_at.ensures.back) ∙ sym c.in-Found.ensures.value) c.in_ok-add.ensures.frames i.place c.in_ok-add.ensures.so_far;
     }
