@@ -1,13 +1,14 @@
 ghost use Rattle.std.specs.Prelude.{◌≡◌, ◌+◌, ◌≤◌, ◌++◌, [], ℕ, true, not, map, take, length, slice_index, IsSome};
 ghost use Rattle.fm_base.specs.Interpretations.{reading_of, is_fit};
-ghost use Rattle.fm_base.specs.Truth.{truth, value as value_of, values, all_true, some_true, block, is_closed, sort_of};
+ghost use Rattle.fm_base.specs.Truth.{truth, value as value_of, all_true, some_true, is_closed, sort_of};
 ghost use Rattle.fm_base.specs.declared.signature.Sig.{Sig as TheSig};
+ghost use Rattle.fm_truth.specs.Evaluating.{applied_under, block_under, values_under};
 ghost use Rattle.fm_truth.specs.Lookup.{tables_ascend};
 ghost use Rattle.fm_truth.specs.Room.{IsWithin, largest, arguments, room_of, room_of_term};
 ghost use Rattle.fm_truth.specs.Tuples.{IsLeastDeciding, tuple_of};
 
 use crate::lookup::{apply, part};
-use crate::rooms::{Env, Places};
+use crate::rooms::{Env, Taken};
 use crate::tuples::{first_tuple, next_tuple};
 use fm_base::{Formula, Fterm, Interp, SortId, SymId};
 
@@ -19,7 +20,7 @@ pub fn holds(interp: &Interp, formula: &Formula, env: &mut Env) -> bool
     ensures value { result ≡ truth formula.now (reading_of interp.now) [] }
     ensures room { env.new ≡ env.old }
 {
-    let none = Places { vars: 0, args: 0 };
+    let none = Taken { vars: 0, args: 0 };
     formula_holds(
         interp,
         formula,
@@ -37,7 +38,7 @@ pub fn value(interp: &Interp, term: &Fterm, env: &mut Env) -> u64
     ensures value { result ≡ value_of term.now (reading_of interp.now) [] }
     ensures room { env.new ≡ env.old }
 {
-    let none = Places { vars: 0, args: 0 };
+    let none = Taken { vars: 0, args: 0 };
     term_value(
         interp,
         term,
@@ -55,7 +56,7 @@ pub(crate) fn formula_holds(
     formula: &Formula,
     vars: &mut [u64],
     args: &mut [u64],
-    taken: Places,
+    taken: Taken,
 ) -> bool
     requires tables { tables_ascend interp.now ≡ true }
     requires vars { taken.vars + (room_of formula.now).vars ≤ length vars.old }
@@ -111,7 +112,7 @@ fn term_value(
     term: &Fterm,
     vars: &mut [u64],
     args: &mut [u64],
-    taken: Places,
+    taken: Taken,
 ) -> u64
     requires tables { tables_ascend interp.now ≡ true }
     requires vars { taken.vars + (room_of_term term.now).vars ≤ length vars.old }
@@ -140,12 +141,12 @@ fn applied(
     terms: &[Fterm],
     vars: &mut [u64],
     args: &mut [u64],
-    taken: Places,
+    taken: Taken,
 ) -> u64
     requires tables { tables_ascend interp.now ≡ true }
     requires vars { taken.vars + (arguments (map room_of_term terms.now)).vars ≤ length vars.old }
     requires args { taken.args + (arguments (map room_of_term terms.now)).args ≤ length args.old }
-    ensures value { result ≡ (reading_of interp.now).at symbol.0 (values (map value_of terms.now) (reading_of interp.now) (take taken.vars vars.old)) }
+    ensures value { result ≡ applied_under (reading_of interp.now) (take taken.vars vars.old) symbol.0 terms.now }
     ensures same_vars { take taken.vars vars.new ≡ take taken.vars vars.old }
     ensures same_args { take taken.args args.new ≡ take taken.args args.old }
 {
@@ -155,15 +156,15 @@ fn applied(
 
 // Writes the values of the terms behind the places of `args` that are taken.
 #[cycle(truth)]
-fn put_values(interp: &Interp, terms: &[Fterm], vars: &mut [u64], args: &mut [u64], taken: Places)
+fn put_values(interp: &Interp, terms: &[Fterm], vars: &mut [u64], args: &mut [u64], taken: Taken)
     requires tables { tables_ascend interp.now ≡ true }
     requires vars { taken.vars + (arguments (map room_of_term terms.now)).vars ≤ length vars.old }
     requires args { taken.args + (arguments (map room_of_term terms.now)).args ≤ length args.old }
-    ensures values { take (taken.args + length terms.now) args.new ≡ take taken.args args.old ++ values (map value_of terms.now) (reading_of interp.now) (take taken.vars vars.old) }
+    ensures values { take (taken.args + length terms.now) args.new ≡ take taken.args args.old ++ values_under (reading_of interp.now) (take taken.vars vars.old) terms.now }
     ensures same_vars { take taken.vars vars.new ≡ take taken.vars vars.old }
 {
     for (i, term) in terms.iter().enumerate() {
-        let here = Places {
+        let here = Taken {
             vars: taken.vars,
             args: taken.args + i,
         };
@@ -177,7 +178,7 @@ fn all_hold(
     formulas: &[Formula],
     vars: &mut [u64],
     args: &mut [u64],
-    taken: Places,
+    taken: Taken,
 ) -> bool
     requires tables { tables_ascend interp.now ≡ true }
     requires vars { taken.vars + (largest (map room_of formulas.now)).vars ≤ length vars.old }
@@ -200,7 +201,7 @@ fn some_hold(
     formulas: &[Formula],
     vars: &mut [u64],
     args: &mut [u64],
-    taken: Places,
+    taken: Taken,
 ) -> bool
     requires tables { tables_ascend interp.now ≡ true }
     requires vars { taken.vars + (largest (map room_of formulas.now)).vars ≤ length vars.old }
@@ -227,17 +228,17 @@ pub(crate) fn block_holds(
     body: &Formula,
     vars: &mut [u64],
     args: &mut [u64],
-    taken: Places,
+    taken: Taken,
 ) -> bool
     requires tables { tables_ascend interp.now ≡ true }
     requires vars { taken.vars + (length sorts.now + (room_of body.now).vars) ≤ length vars.old }
     requires args { taken.args + (room_of body.now).args ≤ length args.old }
-    ensures value { result ≡ block (reading_of interp.now) all sorts.now (λ inner. truth body.now (reading_of interp.now) inner) (take taken.vars vars.old) }
+    ensures value { result ≡ block_under (reading_of interp.now) (take taken.vars vars.old) all sorts.now body.now }
     ensures least { result ≡ not all → IsLeastDeciding (reading_of interp.now) all sorts.now body.now (take taken.vars vars.old) (tuple_of sorts.now taken.vars vars.new) }
     ensures same_vars { take taken.vars vars.new ≡ take taken.vars vars.old }
     ensures same_args { take taken.args args.new ≡ take taken.args args.old }
 {
-    let inner = Places {
+    let inner = Taken {
         vars: taken.vars + sorts.len(),
         args: taken.args,
     };

@@ -1,15 +1,16 @@
 ghost use Rattle.std.specs.Prelude.{◌≡◌, ◌+◌, ◌≤◌, [], true, false, take, length, IfOk, IfNone, IfSome, MatchOption};
 ghost use Rattle.std.specs.List.{All, list_all};
 ghost use Rattle.fm_base.specs.Interpretations.{reading_of, is_fit};
-ghost use Rattle.fm_base.specs.Truth.{truth, block, is_closed};
+ghost use Rattle.fm_base.specs.Truth.{truth, is_closed};
 ghost use Rattle.fm_base.specs.declared.signature.Sig.{Sig as TheSig};
+ghost use Rattle.fm_truth.specs.Evaluating.{block_under};
 ghost use Rattle.fm_truth.specs.Failing.{IsFirstFailing, IsLeastFailing, ShowsFalse, universal_of};
 ghost use Rattle.fm_truth.specs.Lookup.{tables_ascend};
 ghost use Rattle.fm_truth.specs.Room.{IsWithin, room_of};
 
 use crate::evaluate::{block_holds, holds};
 use crate::lookup::part;
-use crate::rooms::{Env, Places};
+use crate::rooms::{Env, Taken};
 use fm_base::{Formula, Interp, Memory, SortId};
 use sqlite_items::Items;
 use std::alloc::Global;
@@ -85,9 +86,9 @@ fn put_least(interp: &Interp, sorts: &[SortId], body: &Formula, vars: &mut [u64]
     requires tables { tables_ascend interp.now ≡ true }
     requires vars { length sorts.now + (room_of body.now).vars ≤ length vars.old }
     requires args { (room_of body.now).args ≤ length args.old }
-    requires fails { block (reading_of interp.now) true sorts.now (λ inner. truth body.now (reading_of interp.now) inner) [] ≡ false }
+    requires fails { block_under (reading_of interp.now) [] true sorts.now body.now ≡ false }
     ensures { IsLeastFailing (reading_of interp.now) sorts.now body.now (take (length sorts.now) vars.new) }
 {
-    let none = Places { vars: 0, args: 0 };
+    let none = Taken { vars: 0, args: 0 };
     block_holds(interp, true, sorts, body, vars, args, none);
 }

@@ -9,6 +9,7 @@ mod failing;
 mod large_tests;
 mod lookup;
 mod rooms;
+mod sorted;
 mod tables;
 #[cfg(test)]
 mod tests;
@@ -19,4 +20,5 @@ mod tuples;
 pub use evaluate::{holds, value};
 pub use failing::{Falsity, first_failing};
 pub use rooms::Env;
+pub use sorted::{are_closed, closed_sort, is_closed};
 pub use tables::fits;

@@ -8,7 +8,7 @@ use std::marker::Model;
 
 /// How many places of the two buffers of an evaluation are wanted or taken.
 #[derive(Clone, Copy)]
-pub(crate) struct Places {
+pub(crate) struct Taken {
     pub(crate) vars: usize,
     pub(crate) args: usize,
 }
@@ -48,7 +48,7 @@ impl Env {
         Ok(env)
     }
 
-    fn with(alloc: Global, places: Places) -> Result<Env, Memory>
+    fn with(alloc: Global, places: Taken) -> Result<Env, Memory>
         ensures { IfOk result (λ e. e ≡ room places.vars places.args) }
     {
         let vars = vec![in alloc; 0; places.vars]?;
@@ -58,11 +58,11 @@ impl Env {
 }
 
 #[cycle(places)]
-fn formula_places(formula: &Formula) -> Result<Places, Memory>
+fn formula_places(formula: &Formula) -> Result<Taken, Memory>
     ensures { IfOk result (λ p. room p.vars p.args ≡ room_of formula.now) }
 {
     match formula {
-        Formula::Truth(_) => Ok(Places { vars: 0, args: 0 }),
+        Formula::Truth(_) => Ok(Taken { vars: 0, args: 0 }),
         Formula::Pred(_, terms) => argument_places(terms.as_slice()),
         Formula::Equal(left, right) => {
             let left = term_places(left)?;
@@ -91,11 +91,11 @@ fn formula_places(formula: &Formula) -> Result<Places, Memory>
 }
 
 #[cycle(places)]
-fn term_places(term: &Fterm) -> Result<Places, Memory>
+fn term_places(term: &Fterm) -> Result<Taken, Memory>
     ensures { IfOk result (λ p. room p.vars p.args ≡ room_of_term term.now) }
 {
     match term {
-        Fterm::Var(_) => Ok(Places { vars: 0, args: 0 }),
+        Fterm::Var(_) => Ok(Taken { vars: 0, args: 0 }),
         Fterm::App(_, terms) => argument_places(terms.as_slice()),
         Fterm::Ite(test, left, right) => {
             let test = formula_places(test.get())?;
@@ -107,10 +107,10 @@ fn term_places(term: &Fterm) -> Result<Places, Memory>
 }
 
 #[cycle(places)]
-fn largest_formula(formulas: &[Formula]) -> Result<Places, Memory>
+fn largest_formula(formulas: &[Formula]) -> Result<Taken, Memory>
     ensures { IfOk result (λ p. room p.vars p.args ≡ largest (map room_of formulas.now)) }
 {
-    let mut places = Places { vars: 0, args: 0 };
+    let mut places = Taken { vars: 0, args: 0 };
     for formula in formulas {
         let here = formula_places(formula)?;
         places = larger_places(places, here);
@@ -119,10 +119,10 @@ fn largest_formula(formulas: &[Formula]) -> Result<Places, Memory>
 }
 
 #[cycle(places)]
-fn argument_places(terms: &[Fterm]) -> Result<Places, Memory>
+fn argument_places(terms: &[Fterm]) -> Result<Taken, Memory>
     ensures { IfOk result (λ p. room p.vars p.args ≡ arguments (map room_of_term terms.now)) }
 {
-    let mut places = Places { vars: 0, args: 0 };
+    let mut places = Taken { vars: 0, args: 0 };
     for term in terms {
         let here = term_places(term)?;
         places = larger_places(places, here);
@@ -130,20 +130,20 @@ fn argument_places(terms: &[Fterm]) -> Result<Places, Memory>
     more_arguments(terms.len(), places)
 }
 
-fn larger_places(left: Places, right: Places) -> Places
+fn larger_places(left: Taken, right: Taken) -> Taken
     ensures { room result.vars result.args ≡ larger (room left.vars left.args) (room right.vars right.args) }
 {
-    Places {
+    Taken {
         vars: left.vars.max(right.vars),
         args: left.args.max(right.args),
     }
 }
 
-fn more_variables(count: usize, places: Places) -> Result<Places, Memory>
+fn more_variables(count: usize, places: Taken) -> Result<Taken, Memory>
     ensures { IfOk result (λ p. room p.vars p.args ≡ room (count + places.vars) places.args) }
 {
     match count.checked_add(places.vars) {
-        Some(vars) => Ok(Places {
+        Some(vars) => Ok(Taken {
             vars,
             args: places.args,
         }),
@@ -151,11 +151,11 @@ fn more_variables(count: usize, places: Places) -> Result<Places, Memory>
     }
 }
 
-fn more_arguments(count: usize, places: Places) -> Result<Places, Memory>
+fn more_arguments(count: usize, places: Taken) -> Result<Taken, Memory>
     ensures { IfOk result (λ p. room p.vars p.args ≡ room places.vars (count + places.args)) }
 {
     match count.checked_add(places.args) {
-        Some(args) => Ok(Places {
+        Some(args) => Ok(Taken {
             vars: places.vars,
             args,
         }),

@@ -6,9 +6,9 @@ use std::alloc::Global;
 use std::test::Fail;
 
 // Two sorts U and V; f from U to U, predicates p and r on U, g from V to U, and a constant c of U.
-pub const U: SortId = SortId(0);
+pub(crate) const U: SortId = SortId(0);
 
-pub const V: SortId = SortId(1);
+pub(crate) const V: SortId = SortId(1);
 
 fn rank(alloc: Global, args: &[Ty], value: Ty) -> Result<Rank, Memory> {
     Ok(Rank {
@@ -17,7 +17,7 @@ fn rank(alloc: Global, args: &[Ty], value: Ty) -> Result<Rank, Memory> {
     })
 }
 
-pub fn signature(alloc: Global) -> Result<Sig, Memory> {
+pub(crate) fn signature(alloc: Global) -> Result<Sig, Memory> {
     let u = Ty::Of(U);
     let mut ranks = Vec::new(alloc);
     ranks.push(rank(alloc, &[u], u)?)?;
@@ -37,7 +37,7 @@ fn interpretation(alloc: Global, size: u64, f: &[u64]) -> Result<Interp, Memory>
 }
 
 // The same, but for the exceptions of r.
-pub fn with_pairs(alloc: Global, size: u64, f: &[u64], r: &[u64]) -> Result<Interp, Memory> {
+pub(crate) fn with_pairs(alloc: Global, size: u64, f: &[u64], r: &[u64]) -> Result<Interp, Memory> {
     let mut tables = Vec::new(alloc);
     tables.push(table(alloc, 0, 1, f)?)?;
     tables.push(table(alloc, 0, 1, &[1, 1])?)?;
@@ -54,7 +54,7 @@ fn constant(alloc: Global) -> Fterm {
     Fterm::App(SymId(4), Items::new(alloc))
 }
 
-pub fn apply(alloc: Global, symbol: usize, argument: Fterm) -> Result<Fterm, Memory> {
+pub(crate) fn apply(alloc: Global, symbol: usize, argument: Fterm) -> Result<Fterm, Memory> {
     let mut arguments = Vec::new(alloc);
     arguments.push(argument)?;
     Ok(Fterm::App(SymId(symbol), Items::from_vec(arguments)))
@@ -70,14 +70,14 @@ fn p(alloc: Global, argument: Fterm) -> Result<Formula, Memory> {
     Ok(Formula::Pred(SymId(1), Items::from_vec(arguments)))
 }
 
-pub fn r(alloc: Global, left: Fterm, right: Fterm) -> Result<Formula, Memory> {
+pub(crate) fn r(alloc: Global, left: Fterm, right: Fterm) -> Result<Formula, Memory> {
     let mut arguments = Vec::new(alloc);
     arguments.push(left)?;
     arguments.push(right)?;
     Ok(Formula::Pred(SymId(2), Items::from_vec(arguments)))
 }
 
-pub fn not(alloc: Global, body: Formula) -> Result<Formula, Memory> {
+pub(crate) fn not(alloc: Global, body: Formula) -> Result<Formula, Memory> {
     Ok(Formula::Not(Boxed::new(alloc, body)?))
 }
 
@@ -103,11 +103,11 @@ fn quantified(alloc: Global, all: bool, vars: &[SortId], body: Formula) -> Resul
     })
 }
 
-pub fn forall(alloc: Global, vars: &[SortId], body: Formula) -> Result<Formula, Memory> {
+pub(crate) fn forall(alloc: Global, vars: &[SortId], body: Formula) -> Result<Formula, Memory> {
     quantified(alloc, true, vars, body)
 }
 
-pub fn exists(alloc: Global, vars: &[SortId], body: Formula) -> Result<Formula, Memory> {
+pub(crate) fn exists(alloc: Global, vars: &[SortId], body: Formula) -> Result<Formula, Memory> {
     quantified(alloc, false, vars, body)
 }
 
