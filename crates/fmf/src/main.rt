@@ -4,6 +4,10 @@
 //! `fmf.cert`.
 #![tactic(auto)]
 
+ghost use Rattle.std.specs.Prelude.{◌≡◌};
+ghost use Rattle.std.specs.Process.{exit_status};
+ghost use Rattle.fmf.specs.Statuses.{exit_code};
+
 mod answers;
 mod certify;
 mod executed;
@@ -21,9 +25,14 @@ use fm_files::RealFiles;
 use std::io::ErrorKind;
 use std::process::ExitCode;
 use std::rt::Env;
-use std::{env, io};
+use std::{env, fs, io};
 
 fn main(rt: HostRuntime) -> ExitCode {
+    // The descriptors of standard streams that the caller closed are taken here and kept, so that no file gets one of
+    // them and is written to as a stream. A closed output then fails, and a closed input is empty.
+    let _first = fs::open(&rt, "/dev/null");
+    let _second = fs::open(&rt, "/dev/null");
+    let _third = fs::open(&rt, "/dev/null");
     let status = match words_of(&rt) {
         Ok(words) => {
             let mut files = RealFiles::new(rt);
@@ -35,6 +44,13 @@ fn main(rt: HostRuntime) -> ExitCode {
     if let Some(message) = status.message() {
         let _ = eprintln!(rt; "{message}");
     }
+    exit_with(status)
+}
+
+// The exit code of the program for a status.
+fn exit_with(status: Status) -> ExitCode
+    ensures { exit_status result ≡ exit_code status }
+{
     ExitCode::from(status.code())
 }
 
