@@ -11,7 +11,7 @@ use Rattle.fm_base.specs.Interpretations.{Reading, reading_of, is_fit, is_table,
 use Rattle.fm_base.specs.Models.{sum_below}
 use Rattle.fm_base.specs.Truth.{truth, value}
 use Rattle.fm_base.proofs.Constructors.{truth_of_equal, truth_of_truth, value_of_app}
-use Rattle.fm_bank.proofs.Values.{value_of_app as plain_value_of_app}
+use Rattle.fm_base.proofs.NormalTerms.{value_of_app as plain_value_of_app}
 use Rattle.fm_bank.specs.Clauses.{Satisfies, value as plain_value}
 use Rattle.fm_bank.specs.declared.clause.Clause.{Clause as FirstOrderClause}
 use Rattle.std.specs.Option.{option_map}
