@@ -1,0 +1,11 @@
+pub mod Clauses
+pub mod Scans
+pub mod Counts
+pub mod Counted
+pub mod Joins
+pub mod Steps
+pub mod Endings
+pub mod Chains
+pub mod Explaining
+pub mod Asserting
+pub mod Determined

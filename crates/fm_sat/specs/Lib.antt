@@ -1,0 +1,4 @@
+pub mod Store
+pub mod Learning
+pub mod Marks
+pub mod Laws
