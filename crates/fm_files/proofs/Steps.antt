@@ -1,5 +1,5 @@
 -- What one call on an entry says of the states before and after it.
-use Rattle.std.proofs.Common.{◌≡◌, ◌↔◌, ℕ, ◌+◌, ◌-◌, ◌^◌, min, Bool, true, false, ◌&&◌, cond, if◌then◌else◌, is_some, List, [], ◌++◌, length, take, Option, Some, None, Result, Ok, Err, IsOk, IfOk, OnOk, is_ok, refl, sym, ◌∙◌, ap, subst}
+use Rattle.std.proofs.Common.{◌≡◌, ◌↔◌, ℕ, Bool, true, false, ◌&&◌, cond, if◌then◌else◌, is_some, List, [], ◌++◌, length, take, Option, Some, None, Result, Ok, Err, IsOk, IfOk, OnOk, is_ok, refl, sym, ◌∙◌, ap, subst}
 use Rattle.std.proofs.Math.Seq.{take-length}
 use Rattle.std.proofs.lemmas.List.{append-nil}
 use Rattle.std.specs.BTreeMap.{BTreeMap, get_by_text}

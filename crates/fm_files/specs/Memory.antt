@@ -1,8 +1,9 @@
 -- What files in memory tell of each name when they are made.
-use Rattle.std.specs.Prelude.{◌≡◌, ℕ, Bool, true, false, ◌&&◌, ◌||◌, if◌then◌else◌, cond, List, [], ◌∷◌, Option, Some, None, is_some, String, Vec, string_bytes}
+use Rattle.std.specs.Prelude.{◌≡◌, ℕ, Bool, ◌&&◌, ◌||◌, if◌then◌else◌, cond, List, [], ◌∷◌, Option, Some, None, is_some, String, Vec, string_bytes}
 use Rattle.std.specs.List.{list_any}
 use Rattle.std.specs.Str.{bytes_eq}
 use Rattle.std.specs.declared.alloc.Global.{Global}
+pub use Rattle.fm_base.specs.Interpretations.{is_nil}
 use Rattle.fm_files.specs.Seen.{Seen}
 
 -- the bytes of the first entry with the name
@@ -20,10 +21,6 @@ is_listed files outs name = is_some (content_of files name) || is_named outs nam
 -- the room of a name at the start
 abbrev pub room_given : List (String Global) → ℕ → List ℕ → Option ℕ
 room_given outs room name = if is_named outs name then Some room else None
-
-abbrev pub is_nil : List ℕ → Bool
-is_nil [] = true
-is_nil (x ∷ xs) = false
 
 -- the files are there to be read whole, nothing is written, no call failed; a name of `files` has sure reading
 -- where no read is listed to fail, and a name of `outs` its room as sure room where no write is

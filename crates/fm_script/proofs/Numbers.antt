@@ -7,13 +7,13 @@ use Rattle.fm_sexp.specs.declared.items.Sexp.{Sexp}
 use Rattle.fm_script.specs.Shown.{Name}
 use Rattle.fm_script.specs.Within.{parameters_within}
 use Rattle.std.proofs.lemmas.List.{drop_more}
-use Rattle.fm_script.specs.Commands.{value_from}
+use Rattle.fm_script.specs.Commands.{decimal_from}
 use Rattle.fm_script.specs.Numerals.{fitting}
 
-pub value_from-grows : (n : ℕ) (ds : List ℕ) → n ≤ value_from n ds
-value_from-grows n [] = omega arith
-value_from-grows n (d ∷ ds) =
-    let h = value_from-grows (n * 10 + (d - 48)) ds in
+pub decimal_from-grows : (n : ℕ) (ds : List ℕ) → n ≤ decimal_from n ds
+decimal_from-grows n [] = omega arith
+decimal_from-grows n (d ∷ ds) =
+    let h = decimal_from-grows (n * 10 + (d - 48)) ds in
     omega (arith, h)
 
 pub fitting-none : (n : ℕ) → None ≡ fitting n → 2 ^ 64 ≤ n
@@ -26,12 +26,12 @@ fitting-none n e =
 pub none-fitting : (n : ℕ) → 2 ^ 64 ≤ n → None ≡ fitting n
 none-fitting n le = sym (cond-false (nat_lt n (2 ^ 64)) (Some n) None (le-ltb n (2 ^ 64) le))
 
-pub stays_wide : (digits : List ℕ) (i sum d : ℕ) → i < length digits → value_from sum (drop i digits) ≡ value_from 0 digits → None ≡ fitting (sum * 10 + (get_or digits i d - 48)) → None ≡ fitting (value_from 0 digits)
+pub stays_wide : (digits : List ℕ) (i sum d : ℕ) → i < length digits → decimal_from sum (drop i digits) ≡ decimal_from 0 digits → None ≡ fitting (sum * 10 + (get_or digits i d - 48)) → None ≡ fitting (decimal_from 0 digits)
 stays_wide digits i sum d lt same wide =
     let next = fitting-none (sum * 10 + (get_or digits i d - 48)) wide in
-    let there : value_from sum (drop i digits) ≡ value_from (sum * 10 + (get_or digits i d - 48)) (drop (i + 1) digits) = ap (λ ds. value_from sum ds) (drop_more digits i d lt) in
-    let grows = value_from-grows (sum * 10 + (get_or digits i d - 48)) (drop (i + 1) digits) in
-    none-fitting (value_from 0 digits) (subst (λ (n : ℕ). 2 ^ 64 ≤ n) (sym there ∙ same) (omega (arith, next, grows)))
+    let there : decimal_from sum (drop i digits) ≡ decimal_from (sum * 10 + (get_or digits i d - 48)) (drop (i + 1) digits) = ap (λ ds. decimal_from sum ds) (drop_more digits i d lt) in
+    let grows = decimal_from-grows (sum * 10 + (get_or digits i d - 48)) (drop (i + 1) digits) in
+    none-fitting (decimal_from 0 digits) (subst (λ (n : ℕ). 2 ^ 64 ≤ n) (sym there ∙ same) (omega (arith, next, grows)))
 
 -- one more parameter
 pub parameters_push : {X : Type 0} (n : ℕ) (f : X → Name × Sexp) (xs : List X) (x : X) → parameters_within n (map f xs) ≡ true → spans_within n (f x).1 ≡ true → parameters_within n (map f (xs ++ x ∷ [])) ≡ true

@@ -90,16 +90,16 @@ abbrev pub is_sort : List ℕ → Sexp → Bool
 is_sort text x = is_some (name_of text x) || is_some (members_of x)
 
 -- the number that decimal digits say
-abbrev pub value_from : ℕ → List ℕ → ℕ
-value_from sum [] = sum
-value_from sum (d ∷ ds) = value_from (sum * 10 + (d - 48)) ds
+abbrev pub decimal_from : ℕ → List ℕ → ℕ
+decimal_from sum [] = sum
+decimal_from sum (d ∷ ds) = decimal_from (sum * 10 + (d - 48)) ds
 
-abbrev pub value_of : List ℕ → ℕ
-value_of digits = value_from 0 digits
+abbrev pub decimal_of : List ℕ → ℕ
+decimal_of digits = decimal_from 0 digits
 
 -- a numeral below 2^64, which the command goes on with
 abbrev pub with_numeral : Name → (Numeral → Shown) → Read
-with_numeral digits go = cond (nat_lt (value_of digits.bytes) (2 ^ 64)) (Ok (go (record { value = value_of digits.bytes; at = digits.at }))) (Err (too_wide digits.at))
+with_numeral digits go = cond (nat_lt (decimal_of digits.bytes) (2 ^ 64)) (Ok (go (record { value = decimal_of digits.bytes; at = digits.at }))) (Err (too_wide digits.at))
 
 abbrev pub set_logic : Place → Option Name → Read
 set_logic at None = Err (bad_shape at)
@@ -239,7 +239,7 @@ assert_of at (t ∷ x ∷ xs) = Err (bad_shape at)
 
 -- the levels of a `push` or a `pop`: one where no numeral stands there
 abbrev pub numeral_in : Name → Result (Option Numeral) Refusal
-numeral_in digits = cond (nat_lt (value_of digits.bytes) (2 ^ 64)) (Ok (Some (record { value = value_of digits.bytes; at = digits.at }))) (Err (too_wide digits.at))
+numeral_in digits = cond (nat_lt (decimal_of digits.bytes) (2 ^ 64)) (Ok (Some (record { value = decimal_of digits.bytes; at = digits.at }))) (Err (too_wide digits.at))
 
 abbrev pub levels : Place → Option Name → Result (Option Numeral) Refusal
 levels at None = Err (bad_shape at)

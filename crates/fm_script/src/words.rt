@@ -2,7 +2,7 @@ ghost use Rattle.std.specs.Prelude.{◌≡◌, ℕ, IfSome, ◌+◌, ◌-◌, �
 ghost use Rattle.std.specs.List.{list_all};
 ghost use Rattle.std.specs.Option.{option_map};
 ghost use Rattle.fm_sexp.specs.Items.{spans_within, all_within};
-ghost use Rattle.fm_script.specs.Commands.{symbol_of, name_of, keyword_of, literal_of, digits_of, members_of, place_of_item, is_sort as is_sort_of, value_of, value_from, is_switch as is_switch_of, is_truth_name as is_truth_of};
+ghost use Rattle.fm_script.specs.Commands.{symbol_of, name_of, keyword_of, literal_of, digits_of, members_of, place_of_item, is_sort as is_sort_of, decimal_of, decimal_from, is_switch as is_switch_of, is_truth_name as is_truth_of};
 ghost use Rattle.fm_script.specs.Numerals.{fitting, numeral_of};
 ghost use Rattle.fm_script.specs.Shown.{name_shown, numeral_shown};
 
@@ -17,6 +17,16 @@ fn bytes_of(text: &[u8], start: usize, end: usize) -> &[u8]
     ensures { result.now ≡ slice_range text.now start end }
 {
     &text[start..end]
+}
+
+// A word of the text, as a part of a command.
+fn part(text: &[u8], start: usize, end: usize, at: Place) -> Part<'_>
+    requires order { start ≤ end }
+    requires within { end ≤ length text.now }
+    ensures { name_shown result ≡ record { bytes = slice_range text.now start end; at = at } }
+{
+    let bytes = bytes_of(text, start, end);
+    Part { bytes, at }
 }
 
 // The bytes of a symbol, reserved or not.
@@ -78,10 +88,7 @@ pub(crate) fn keyword<'a>(text: &'a [u8], item: &Sexp) -> Option<Part<'a>>
             start,
             end,
             at,
-        } => Some(Part {
-            bytes: bytes_of(text, *start, *end),
-            at: *at,
-        }),
+        } => Some(part(text, *start, *end, *at)),
         _ => None,
     }
 }
@@ -97,10 +104,7 @@ pub(crate) fn literal<'a>(text: &'a [u8], item: &Sexp) -> Option<Part<'a>>
             start,
             end,
             at,
-        } => Some(Part {
-            bytes: bytes_of(text, *start, *end),
-            at: *at,
-        }),
+        } => Some(part(text, *start, *end, *at)),
         _ => None,
     }
 }
@@ -116,10 +120,7 @@ pub(crate) fn digits<'a>(text: &'a [u8], item: &Sexp) -> Option<Part<'a>>
             start,
             end,
             at,
-        } => Some(Part {
-            bytes: bytes_of(text, *start, *end),
-            at: *at,
-        }),
+        } => Some(part(text, *start, *end, *at)),
         _ => None,
     }
 }
@@ -176,7 +177,7 @@ fn with_digit(sum: u64, digit: u8) -> Option<u64>
 
 // The number that decimal digits say, where it is below 2^64.
 fn number_value(digits: &[u8]) -> Option<u64>
-    ensures { result ≡ fitting (value_of digits.now) }
+    ensures { result ≡ fitting (decimal_of digits.now) }
 {
     let mut sum = 0;
     for digit in digits {

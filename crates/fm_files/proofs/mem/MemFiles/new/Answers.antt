@@ -1,5 +1,4 @@
 use Rattle.std.proofs.Common.{ap, ◌∙◌, Bool, ◌||◌}
-use Rattle.std.specs.BTreeMap.{get_by_text}
 use Rattle.fm_files.specs.Memory.{is_named}
 use Rattle.fm_files.proofs.mem.MemFiles.new.Goals as goal
 
