@@ -1,9 +1,12 @@
-ghost use Rattle.std.specs.Prelude.{◌≡◌, ◌++◌, IfOk, OnOk, None, map, get_or, drop};
-ghost use Rattle.fm_arena.specs.Pairs.{each_pair, flat_pairs as flat_pairs_of, paired};
-ghost use Rattle.fm_arena.specs.Trees.{apart as apart_of, apart_kind as apart_kind_of, built, formula_in as formula_in_of, nothing, thing_in as thing_in_of};
+ghost use Rattle.std.specs.Prelude.{◌≡◌, ◌++◌, ◌∷◌, List, IfOk, OnOk, None, map, get_or, drop};
+ghost use Rattle.fm_arena.specs.Pairs.{each_pair, flat_pairs as flat_pairs_of, held_list, paired};
+ghost use Rattle.fm_arena.specs.Trees.{apart as apart_of, apart_kind as apart_kind_of, built, formula_at, formula_in as formula_in_of};
+ghost use Rattle.fm_arena.specs.Trees.{nothing, thing_at, thing_in as thing_in_of};
+ghost use Rattle.fm_base.specs.declared.formula.Formula as formula;
+ghost use Rattle.fm_arena.specs.declared.node.Tree.{Tree as TheTree};
 
 use crate::node::{Op, Tree};
-use fm_base::{Formula, Fterm, Memory};
+use fm_base::{Formula, Fterm, Memory, SortId};
 use sqlite_items::{Boxed, Items};
 use std::alloc::Global;
 
@@ -59,19 +62,44 @@ fn first(trees: &mut Vec<Tree>) -> Tree
     }
 }
 
+// That two trees are equal.
+fn equal(alloc: Global, truth: bool, left: Tree, right: Tree) -> Result<Formula, Memory>
+    ensures { IfOk result (λ f. formula.Not f ≡ apart_of truth left right) }
+{
+    if !truth {
+        return Ok(Formula::Equal(thing_in(left), thing_in(right)));
+    }
+    let left = Boxed::new(alloc, formula_in(left))?;
+    let right = Boxed::new(alloc, formula_in(right))?;
+    Ok(Formula::Iff(left, right))
+}
+
 // That two trees differ.
 fn apart(alloc: Global, truth: bool, left: Tree, right: Tree) -> Result<Formula, Memory>
     ensures { IfOk result (λ f. f ≡ apart_of truth left right) }
 {
-    let equal = if truth {
-        let left = Boxed::new(alloc, formula_in(left))?;
-        let right = Boxed::new(alloc, formula_in(right))?;
-        Formula::Iff(left, right)
-    } else {
-        Formula::Equal(thing_in(left), thing_in(right))
-    };
-    let inner = Boxed::new(alloc, equal)?;
+    let inner = Boxed::new(alloc, equal(alloc, truth, left, right)?)?;
     Ok(Formula::Not(inner))
+}
+
+// Adds a tree to those that are paired: that it differs from the one that waits for it, if there is one. Answers
+// the tree that waits then.
+fn pair_up(
+    alloc: Global,
+    truth: bool,
+    list: &mut Vec<Formula>,
+    held: Option<Tree>,
+    tree: Tree,
+) -> Result<Option<Tree>, Memory>
+    ensures { (rest : List TheTree) → IfOk result (λ o. list.new.items ++ paired truth (held_list o ++ rest) ≡ list.old.items ++ paired truth (held_list held ++ tree ∷ rest)) }
+{
+    match held {
+        None => Ok(Some(tree)),
+        Some(left) => {
+            list.push(apart(alloc, truth, left, tree)?)?;
+            Ok(None)
+        }
+    }
 }
 
 /// That the trees of each pair differ, where pairs stand one behind the other.
@@ -84,12 +112,9 @@ pub(crate) fn all_apart(
     ensures { IfOk result (λ fs. fs ≡ paired truth trees.items) }
 {
     let mut list = Vec::new(alloc);
-    let mut held: Option<Tree> = None;
+    let mut held = None;
     for tree in trees {
-        match held.take() {
-            None => held = Some(tree),
-            Some(left) => list.push(apart(alloc, truth, left, tree)?)?,
-        }
+        held = pair_up(alloc, truth, &mut list, held, tree)?;
     }
     Ok(Items::from_vec(list))
 }
@@ -118,6 +143,15 @@ pub(crate) fn flat_pairs(alloc: Global, parts: &[usize]) -> Result<Vec<usize>, M
     Ok(list)
 }
 
+/// A block of quantifiers over a tree.
+pub(crate) fn block(alloc: Global, all: bool, vars: &[SortId], tree: Tree) -> Result<Tree, Memory>
+    ensures { IfOk result (λ t. t ≡ Tree.Truth (formula.Quant all vars.now (formula_in_of tree))) }
+{
+    let vars = Items::from_slice(alloc, vars)?;
+    let body = Boxed::new(alloc, formula_in(tree))?;
+    Ok(Tree::Truth(Formula::Quant { all, vars, body }))
+}
+
 /// The kind of arguments that `distinct` takes; None for another operator.
 pub(crate) fn apart_kind(op: Op) -> Option<bool>
     ensures { result ≡ apart_kind_of op }
@@ -126,6 +160,53 @@ pub(crate) fn apart_kind(op: Op) -> Option<bool>
         Op::Distinct(truth) => Some(truth),
         _ => None,
     }
+}
+
+// The first formula, taken out.
+fn first_formula(alloc: Global, trees: &mut Vec<Tree>) -> Result<Boxed<Formula>, Memory>
+    ensures formula { IfOk result (λ f. f ≡ formula_at trees.old.items 0) }
+    ensures rest { trees.new.items ≡ drop 1 trees.old.items }
+{
+    let formula = Boxed::new(alloc, formula_in(first(trees)))?;
+    Ok(formula)
+}
+
+// The first term, taken out.
+fn first_thing(alloc: Global, trees: &mut Vec<Tree>) -> Result<Boxed<Fterm>, Memory>
+    ensures thing { IfOk result (λ t. t ≡ thing_at trees.old.items 0) }
+    ensures rest { trees.new.items ≡ drop 1 trees.old.items }
+{
+    let thing = Boxed::new(alloc, thing_in(first(trees)))?;
+    Ok(thing)
+}
+
+fn equivalence(alloc: Global, trees: Vec<Tree>) -> Result<Tree, Memory>
+    ensures { IfOk result (λ t. t ≡ built Op.Iff trees.items) }
+{
+    let mut trees = trees;
+    let left = first_formula(alloc, &mut trees)?;
+    let right = first_formula(alloc, &mut trees)?;
+    Ok(Tree::Truth(Formula::Iff(left, right)))
+}
+
+fn conditional(alloc: Global, trees: Vec<Tree>) -> Result<Tree, Memory>
+    ensures { IfOk result (λ t. t ≡ built Op.Ite trees.items) }
+{
+    let mut trees = trees;
+    let test = first_formula(alloc, &mut trees)?;
+    let left = first_formula(alloc, &mut trees)?;
+    let right = first_formula(alloc, &mut trees)?;
+    Ok(Tree::Truth(Formula::Ite(test, left, right)))
+}
+
+fn choice(alloc: Global, trees: Vec<Tree>) -> Result<Tree, Memory>
+    ensures { IfOk result (λ t. t ≡ built Op.Choice trees.items) }
+{
+    let mut trees = trees;
+    let test = first_formula(alloc, &mut trees)?;
+    let left = first_thing(alloc, &mut trees)?;
+    let right = first_thing(alloc, &mut trees)?;
+    Ok(Tree::Thing(Fterm::Ite(test, left, right)))
 }
 
 /// What an operator other than `distinct` makes of trees.
@@ -154,7 +235,7 @@ pub(crate) fn build(alloc: Global, op: Op, trees: Vec<Tree>) -> Result<Tree, Mem
             Ok(Tree::Truth(Formula::Or(members)))
         }
         Op::Not => {
-            let body = Boxed::new(alloc, formula_in(first(&mut trees)))?;
+            let body = first_formula(alloc, &mut trees)?;
             Ok(Tree::Truth(Formula::Not(body)))
         }
         Op::Equal => {
@@ -162,22 +243,8 @@ pub(crate) fn build(alloc: Global, op: Op, trees: Vec<Tree>) -> Result<Tree, Mem
             let right = thing_in(first(&mut trees));
             Ok(Tree::Truth(Formula::Equal(left, right)))
         }
-        Op::Iff => {
-            let left = Boxed::new(alloc, formula_in(first(&mut trees)))?;
-            let right = Boxed::new(alloc, formula_in(first(&mut trees)))?;
-            Ok(Tree::Truth(Formula::Iff(left, right)))
-        }
-        Op::Ite => {
-            let test = Boxed::new(alloc, formula_in(first(&mut trees)))?;
-            let left = Boxed::new(alloc, formula_in(first(&mut trees)))?;
-            let right = Boxed::new(alloc, formula_in(first(&mut trees)))?;
-            Ok(Tree::Truth(Formula::Ite(test, left, right)))
-        }
-        Op::Choice => {
-            let test = Boxed::new(alloc, formula_in(first(&mut trees)))?;
-            let left = Boxed::new(alloc, thing_in(first(&mut trees)))?;
-            let right = Boxed::new(alloc, thing_in(first(&mut trees)))?;
-            Ok(Tree::Thing(Fterm::Ite(test, left, right)))
-        }
+        Op::Iff => equivalence(alloc, trees),
+        Op::Ite => conditional(alloc, trees),
+        Op::Choice => choice(alloc, trees),
     }
 }

@@ -91,15 +91,19 @@ fn add_terms(text: &mut Vec<u8>, terms: &[Fterm]) -> Result<(), Memory> {
     Ok(())
 }
 
+fn add_tree(text: &mut Vec<u8>, alloc: Global, arena: &Arena, number: usize) -> Result<(), Memory> {
+    if arena.ty(number).is_bool() {
+        let formula = arena.formula(alloc, number)?;
+        add_formula(text, &formula)
+    } else {
+        let term = arena.term(alloc, number)?;
+        add_term(text, &term)
+    }
+}
+
 /// The text of the tree of a number.
 pub(crate) fn shown(alloc: Global, arena: &Arena, number: usize) -> Result<Vec<u8>, Memory> {
     let mut text = Vec::new(alloc);
-    if arena.ty(number).is_bool() {
-        let formula = arena.formula(alloc, number)?;
-        add_formula(&mut text, &formula)?;
-    } else {
-        let term = arena.term(alloc, number)?;
-        add_term(&mut text, &term)?;
-    }
+    add_tree(&mut text, alloc, arena, number)?;
     Ok(text)
 }

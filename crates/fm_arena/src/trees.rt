@@ -1,15 +1,14 @@
 ghost use Rattle.std.specs.Prelude.{◌≡◌, ℕ, false, true, IfOk};
 ghost use Rattle.fm_base.specs.declared.formula.Formula as formula;
 ghost use Rattle.fm_base.specs.declared.formula.Fterm as fterm;
-ghost use Rattle.fm_arena.specs.Trees.{formula_in as formula_in_of, of_kind, thing_in as thing_in_of};
+ghost use Rattle.fm_arena.specs.Trees.{built, formula_in as formula_in_of, of_kind, thing_in as thing_in_of};
 ghost use Rattle.fm_arena.specs.Meanings.{kind_at, meaning_at, meaning_of, terms_of, tree_at, trees_at};
 ghost use Rattle.fm_arena.specs.Frames.{names_of};
 
 use crate::arena::Arena;
-use crate::building::{all_apart, apart_kind, build, flat_pairs, formula_in, thing_in};
-use crate::node::{Entry, Node, Tree};
+use crate::building::{all_apart, apart_kind, block, build, flat_pairs, formula_in, thing_in};
+use crate::node::{Entry, Node, Op, Tree};
 use fm_base::{Formula, Fterm, Memory};
-use sqlite_items::{Boxed, Items};
 use std::alloc::Global;
 
 /// The blocks around a term, the innermost first: how many names are in scope around each, and how many variables.
@@ -87,20 +86,7 @@ fn node_tree(
 {
     match node {
         Node::Name { place, truth } => name_tree(frame, *place, *truth),
-        Node::Made { op, parts } => {
-            match apart_kind(*op) {
-                Some(truth) => {
-                    let pairs = flat_pairs(alloc, parts.as_slice())?;
-                    let trees = trees_of(alloc, before, pairs.as_slice(), frame, depth)?;
-                    let members = all_apart(alloc, truth, trees)?;
-                    Ok(Tree::Truth(Formula::And(members)))
-                }
-                None => {
-                    let trees = trees_of(alloc, before, parts.as_slice(), frame, depth)?;
-                    build(alloc, *op, trees)
-                }
-            }
-        }
+        Node::Made { op, parts } => made_tree(alloc, before, *op, parts.as_slice(), frame, depth),
         Node::Quant {
             all,
             vars,
@@ -116,13 +102,30 @@ fn node_tree(
                 return Err(Memory);
             };
             let tree = tree_of(alloc, before, *body, &inner, deeper)?;
-            let vars = Items::from_slice(alloc, vars.as_slice())?;
-            let body = Boxed::new(alloc, formula_in(tree))?;
-            Ok(Tree::Truth(Formula::Quant {
-                all: *all,
-                vars,
-                body,
-            }))
+            block(alloc, *all, vars.as_slice(), tree)
+        }
+    }
+}
+
+// What an operator makes of the trees of its parts.
+#[cycle(trees)]
+fn made_tree(
+    alloc: Global,
+    before: &[Entry],
+    op: Op,
+    parts: &[usize],
+    frame: &Frame<'_>,
+    depth: usize,
+) -> Result<Tree, Memory>
+    ensures { IfOk result (λ t. t ≡ built op (trees_at (terms_of before.now) parts.now (names_of frame.now) depth)) }
+{
+    match apart_kind(op) {
+        None => build(alloc, op, trees_of(alloc, before, parts, frame, depth)?),
+        Some(truth) => {
+            let pairs = flat_pairs(alloc, parts)?;
+            let trees = trees_of(alloc, before, pairs.as_slice(), frame, depth)?;
+            let members = all_apart(alloc, truth, trees)?;
+            Ok(Tree::Truth(Formula::And(members)))
         }
     }
 }

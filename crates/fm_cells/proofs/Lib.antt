@@ -1,0 +1,10 @@
+pub mod Hanging
+pub mod Heights
+pub mod Logging
+pub mod Members
+pub mod Pending
+pub mod Pushing
+pub mod Relabeling
+pub mod Splicing
+pub mod Turning
+pub mod Ways

@@ -1,0 +1,5 @@
+pub mod Forest
+pub mod Logs
+pub mod Members
+pub mod Rings
+pub mod Unions

@@ -1,0 +1,113 @@
+ghost use Rattle.std.specs.Prelude.{◌≡◌, ◌<◌, [], length, OnOk};
+ghost use Rattle.fm_cells.specs.Logs.{HasLogged};
+ghost use Rattle.fm_cells.specs.Rings.{AreMerged, AreRelabelled, HasRing, one_or, own_or};
+ghost use Rattle.fm_cells.specs.Unions.{AreSameCells, AreSameLogs, HasNode, HasRings, HaveRoom, KeepsRings, LogsClass, LogsNext, LogsSize};
+
+use crate::cells::Logged;
+use fm_base::Memory;
+use std::alloc::Global;
+
+/// Classes of nodes (union-find with rings): for each node the number of its class, which is one of its members, and the
+/// next member of its class, and by the number of a class how many members it has. So the class of a node is one read, and
+/// a union writes the cells of one of the two classes alone.
+#[derive(Drop)]
+pub struct Classes {
+    pub class: Logged<usize>,
+    pub next: Logged<usize>,
+    pub size: Logged<usize>,
+}
+
+// Gives the members of a class another number.
+fn relabel(
+    class: &mut Logged<usize>,
+    next: &Logged<usize>,
+    size: &Logged<usize>,
+    from: usize,
+    to: usize,
+) -> Result<(), Memory>
+    requires ring { HasRing (own_or next.now.cells.items) (own_or class.old.cells.items) (one_or size.now.cells.items) from }
+    requires from { from < length class.old.cells.items }
+    requires nexts { length next.now.cells.items ≡ length class.old.cells.items }
+    requires sizes { length size.now.cells.items ≡ length class.old.cells.items }
+    ensures cells { OnOk result (AreRelabelled from to (own_or class.old.cells.items) (own_or class.new.cells.items)) }
+    ensures length { length class.new.cells.items ≡ length class.old.cells.items }
+    ensures logged { HasLogged class.old.log.items class.old.cells.items class.new.log.items class.new.cells.items }
+{
+    let mut at = from;
+    for _i in 0..size.get(from) {
+        class.set(at, to)?;
+        at = next.get(at);
+    }
+    Ok(())
+}
+
+impl Classes {
+    /// No nodes.
+    pub fn new(alloc: Global) -> Classes
+        ensures class { result.class.cells.items ≡ [] }
+        ensures next { result.next.cells.items ≡ [] }
+        ensures size { result.size.cells.items ≡ [] }
+        ensures class_log { result.class.log.items ≡ [] }
+        ensures next_log { result.next.log.items ≡ [] }
+        ensures size_log { result.size.log.items ≡ [] }
+        ensures rings { HasRings result }
+    {
+        Classes {
+            class: Logged::new(alloc),
+            next: Logged::new(alloc),
+            size: Logged::new(alloc),
+        }
+    }
+
+    /// Makes room for one more node.
+    pub fn reserve(&mut self) -> Result<(), Memory>
+        ensures room { OnOk result (HaveRoom self.new) }
+        ensures cells { AreSameCells self.old self.new }
+        ensures logs { AreSameLogs self.old self.new }
+    {
+        self.class.reserve()?;
+        self.next.reserve()?;
+        self.size.reserve()?;
+        Ok(())
+    }
+
+    /// One node more, a class of its own, where there is room for it. The logs don't change, so no undo takes it away.
+    pub fn push_within(&mut self)
+        requires room { HaveRoom self.old }
+        ensures node { HasNode self.old self.new }
+        ensures rings { KeepsRings self.old self.new }
+        ensures logs { AreSameLogs self.old self.new }
+    {
+        let node = self.class.len();
+        self.class.push_within(node);
+        self.next.push_within(node);
+        self.size.push_within(1);
+    }
+
+    /// Makes one class of two, whose number is the second. It writes the cells of the members of the first, so a caller
+    /// names the smaller one first.
+    pub fn union(&mut self, a: usize, b: usize) -> Result<(), Memory>
+        requires rings { HasRings self.old }
+        requires a { a < length self.old.class.cells.items }
+        requires b { b < length self.old.class.cells.items }
+        requires nexts { length self.old.next.cells.items ≡ length self.old.class.cells.items }
+        requires sizes { length self.old.size.cells.items ≡ length self.old.class.cells.items }
+        requires root_a { own_or self.old.class.cells.items a ≡ a }
+        requires root_b { own_or self.old.class.cells.items b ≡ b }
+        requires differ { a ≡ b → ⊥ }
+        ensures rings { OnOk result (HasRings self.new) }
+        ensures classes { OnOk result (AreMerged a b (own_or self.old.class.cells.items) (own_or self.new.class.cells.items)) }
+        ensures class_logged { LogsClass self.old self.new }
+        ensures next_logged { LogsNext self.old self.new }
+        ensures size_logged { LogsSize self.old self.new }
+    {
+        relabel(&mut self.class, &self.next, &self.size, a, b)?;
+        let after_a = self.next.get(a);
+        let after_b = self.next.get(b);
+        self.next.set(a, after_b)?;
+        self.next.set(b, after_a)?;
+        let both = self.size.get(a) + self.size.get(b);
+        self.size.set(b, both)?;
+        Ok(())
+    }
+}
