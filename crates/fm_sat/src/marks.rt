@@ -17,7 +17,7 @@ pub(crate) struct Marks {
 }
 
 impl Marks {
-    // No marks, for a trail of this length.
+    /// No marks, for a trail of this length.
     pub fn none(alloc: Global, len: usize) -> Result<Marks, Memory>
         ensures marks { IfOk result (λ m. m.marks.items ≡ replicate len false) }
         ensures count { IfOk result (λ m. m.count ≡ 0) }
@@ -51,7 +51,7 @@ impl Marks {
         Ok(())
     }
 
-    // Takes the mark of an entry of the highest level away.
+    /// Takes the mark of an entry of the highest level away.
     pub fn unmark(&mut self, trail: &Trail, place: usize, top: usize)
         requires once { HasOneEntry trail.now.entries }
         requires counted { IsCounted trail.now.entries top self.old }
@@ -65,7 +65,7 @@ impl Marks {
         self.count -= 1;
     }
 
-    // Marks the entries below the bound that have an atom of the clause.
+    /// Marks the entries below the bound that have an atom of the clause.
     pub fn mark_clause(
         &mut self,
         trail: &Trail,
@@ -107,7 +107,7 @@ impl Marks {
         }
     }
 
-    // The last mark below the bound.
+    /// The last mark below the bound.
     pub fn last_below(&self, bound: usize) -> usize
         requires within { bound ≤ length self.now.marks.items }
         requires some { (p : ℕ) × IsMarked self.now.marks.items p × (p < bound) }
