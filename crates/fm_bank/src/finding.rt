@@ -1,6 +1,6 @@
 ghost use Rattle.std.specs.Prelude.{◌≡◌, slice_get, IfOk};
 ghost use Rattle.std.specs.Option.{option_map};
-ghost use Rattle.fm_bank.specs.Terms.{application, find, numbers};
+ghost use Rattle.fm_bank.specs.Terms.{application, find, number_found, numbers};
 ghost use Rattle.fm_bank.specs.Instances.{application_number, equality_of, ground_atom, ground_literals, number_of, numbers_of, predicate_of};
 
 use crate::atom::Atom;
@@ -15,7 +15,7 @@ use std::alloc::Global;
 
 // The number of a term, where it is there.
 pub(crate) fn find_term(terms: &IndexSet<Key>, symbol: SymId, args: &[TermId]) -> Option<TermId>
-    ensures { option_map (λ t. t.0) result ≡ find terms.now.keys (application symbol args.now) }
+    ensures { number_found result ≡ find terms.now.keys (application symbol args.now) }
 {
     terms.get_index_of(Wanted { symbol, args }).map(TermId)
 }
@@ -28,7 +28,7 @@ fn find_replaced(
     term: &Pterm,
     subst: &[TermId],
 ) -> Result<Option<TermId>, Memory>
-    ensures { IfOk result (λ o. number_of term.now terms.now.keys (numbers subst.now) ≡ option_map (λ t. t.0) o) }
+    ensures { IfOk result (λ o. number_of term.now terms.now.keys (numbers subst.now) ≡ number_found o) }
 {
     match term {
         Pterm::Var(variable) => Ok(replacement(subst, *variable)),
@@ -39,7 +39,7 @@ fn find_replaced(
 }
 
 fn replacement(subst: &[TermId], variable: usize) -> Option<TermId>
-    ensures { option_map (λ t. t.0) result ≡ slice_get (numbers subst.now) variable }
+    ensures { number_found result ≡ slice_get (numbers subst.now) variable }
 {
     subst.get(variable).copied()
 }
@@ -52,7 +52,7 @@ fn find_application(
     args: &[Pterm],
     subst: &[TermId],
 ) -> Result<Option<TermId>, Memory>
-    ensures { IfOk result (λ o. application_number symbol.0 args.now terms.now.keys (numbers subst.now) ≡ option_map (λ t. t.0) o) }
+    ensures { IfOk result (λ o. application_number symbol.0 args.now terms.now.keys (numbers subst.now) ≡ number_found o) }
 {
     match find_all(alloc, terms, args, subst)? {
         None => Ok(None),
@@ -101,7 +101,7 @@ fn find_ground_atom(
 }
 
 fn predicate(term: Option<TermId>) -> Option<Atom>
-    ensures { result ≡ predicate_of (option_map (λ t. t.0) term) }
+    ensures { result ≡ predicate_of (number_found term) }
 {
     match term {
         None => None,
@@ -110,7 +110,7 @@ fn predicate(term: Option<TermId>) -> Option<Atom>
 }
 
 fn both(left: Option<TermId>, right: Option<TermId>) -> Option<Atom>
-    ensures { result ≡ equality_of (option_map (λ t. t.0) left) (option_map (λ t. t.0) right) }
+    ensures { result ≡ equality_of (number_found left) (number_found right) }
 {
     match (left, right) {
         (Some(left), Some(right)) => Some(equality(left, right)),

@@ -1,7 +1,7 @@
 ghost use Rattle.std.specs.Prelude.{◌≡◌, [], IfOk, OnOk, OnErr};
 ghost use Rattle.fm_bank.specs.Terms.{application, numbers};
 ghost use Rattle.fm_bank.specs.Instances.{equality as equality_of};
-ghost use Rattle.fm_bank.specs.Interning.{IsUnderway, application_grown, atom_grown, first_places, grown, literals_grown, term_number, terms_grown, with_literal, with_term};
+ghost use Rattle.fm_bank.specs.Interning.{IsUnderway, application_put, atom_grown, first_places, grown, literals_put, term_number, terms_put, with_literal, with_term};
 
 use crate::atom::Atom;
 use crate::clause::Plit;
@@ -54,8 +54,8 @@ fn ground_application(
     args: &[Pterm],
     subst: &[TermId],
 ) -> Result<TermId, Memory>
-    ensures ok { IfOk result (λ t. application_grown symbol.0 args.now (numbers subst.now) terms.old.keys ≡ (terms.new.keys, t.0)) }
-    ensures err { OnErr result (IsUnderway (application_grown symbol.0 args.now (numbers subst.now)) terms.old.keys terms.new.keys) }
+    ensures ok { IfOk result (λ t. application_put symbol args.now subst.now terms.old.keys ≡ (terms.new.keys, t.0)) }
+    ensures err { OnErr result (IsUnderway (application_put symbol args.now subst.now) terms.old.keys terms.new.keys) }
 {
     let args = ground_all(alloc, terms, args, subst)?;
     put(terms, symbol, args)
@@ -68,8 +68,8 @@ fn ground_all(
     args: &[Pterm],
     subst: &[TermId],
 ) -> Result<Args, Memory>
-    ensures ok { IfOk result (λ ts. terms_grown args.now (numbers subst.now) terms.old.keys ≡ (terms.new.keys, numbers ts.items)) }
-    ensures err { OnErr result (IsUnderway (terms_grown args.now (numbers subst.now)) terms.old.keys terms.new.keys) }
+    ensures ok { IfOk result (λ ts. terms_put args.now subst.now terms.old.keys ≡ (terms.new.keys, numbers ts.items)) }
+    ensures err { OnErr result (IsUnderway (terms_put args.now subst.now) terms.old.keys terms.new.keys) }
 {
     let mut ids = SmallVec::new(alloc);
     for arg in args {
@@ -119,9 +119,9 @@ pub(crate) fn ground_literals(
     lits: &[Plit],
     subst: &[TermId],
 ) -> Result<IndexSet<Literal>, Memory>
-    ensures terms { OnOk result (terms.new.keys ≡ (literals_grown lits.now (numbers subst.now) terms.old.keys).0) }
-    ensures literals { IfOk result (λ ls. ls.keys ≡ first_places [] (literals_grown lits.now (numbers subst.now) terms.old.keys).1) }
-    ensures err { OnErr result (IsUnderway (literals_grown lits.now (numbers subst.now)) terms.old.keys terms.new.keys) }
+    ensures terms { OnOk result (terms.new.keys ≡ (literals_put lits.now subst.now terms.old.keys).0) }
+    ensures literals { IfOk result (λ ls. ls.keys ≡ first_places [] (literals_put lits.now subst.now terms.old.keys).1) }
+    ensures err { OnErr result (IsUnderway (literals_put lits.now subst.now) terms.old.keys terms.new.keys) }
 {
     let mut literals = IndexSet::new(alloc);
     for lit in lits {

@@ -1,6 +1,6 @@
 ghost use Rattle.std.specs.Prelude.{◌≡◌, IfOk, OnOk, OnErr};
 ghost use Rattle.std.specs.Option.{option_map};
-ghost use Rattle.fm_bank.specs.Terms.{numbers};
+ghost use Rattle.fm_bank.specs.Terms.{number_found, numbers};
 ghost use Rattle.fm_bank.specs.Interning.{IsBetween, IsUnderway};
 ghost use Rattle.fm_bank.specs.GroundTerms.{application_ground_grown, ground_atom_grown, ground_grown, ground_literals_grown, terms_ground_grown};
 
@@ -19,7 +19,7 @@ fn put_term(
     terms: &mut IndexSet<Key>,
     term: &Pterm,
 ) -> Result<Option<TermId>, Memory>
-    ensures ok { IfOk result (λ o. ground_grown term.now terms.old.keys ≡ (terms.new.keys, option_map (λ t. t.0) o)) }
+    ensures ok { IfOk result (λ o. ground_grown term.now terms.old.keys ≡ (terms.new.keys, number_found o)) }
     ensures err { OnErr result (IsUnderway (ground_grown term.now) terms.old.keys terms.new.keys) }
 {
     match term {
@@ -35,7 +35,7 @@ fn put_application(
     symbol: SymId,
     args: &[Pterm],
 ) -> Result<Option<TermId>, Memory>
-    ensures ok { IfOk result (λ o. application_ground_grown symbol.0 args.now terms.old.keys ≡ (terms.new.keys, option_map (λ t. t.0) o)) }
+    ensures ok { IfOk result (λ o. application_ground_grown symbol.0 args.now terms.old.keys ≡ (terms.new.keys, number_found o)) }
     ensures err { OnErr result (IsUnderway (application_ground_grown symbol.0 args.now) terms.old.keys terms.new.keys) }
 {
     match put_all(alloc, terms, args)? {

@@ -1,13 +1,18 @@
 -- What files in memory tell of each name, from what they keep of it.
-use Rattle.std.specs.Prelude.{◌≡◌, ℕ, ◌+◌, ◌-◌, ◌^◌, ◌==◌, min, Bool, true, false, ◌&&◌, ◌||◌, if◌then◌else◌, cond, List, [], drop, length, IfOk, IfSome, Result, Option, Some, None, is_some, vec_len}
+use Rattle.std.specs.Prelude.{◌≡◌, ℕ, ◌+◌, ◌-◌, ◌^◌, ◌++◌, ◌==◌, min, Bool, true, false, ◌&&◌, ◌||◌, if◌then◌else◌, cond, List, [], drop, length, IfOk, IfSome, OnErr, Result, Option, Some, None, is_some, vec_len}
 use Rattle.std.specs.List.{list_any}
 use Rattle.std.specs.BTreeMap.{get_by_text}
 use Rattle.fm_files.specs.Memory.{is_nil}
-use Rattle.fm_files.specs.Seen.{Seen}
+use Rattle.std.specs.Str.{bytes_eq}
+use Rattle.fm_files.specs.Seen.{CountsAlone, HasCause, HasRoom, Seen, lowered}
 use Rattle.fm_files.specs.declared.entry.Source.{Source}
 use Rattle.fm_files.specs.declared.entry.Sink.{Sink}
 use Rattle.fm_files.specs.declared.entry.Entry.{Entry}
 use Rattle.fm_files.specs.declared.mem.MemFiles.{MemFiles}
+
+-- the entry of each name
+abbrev pub Entries : Type 0
+Entries = List ℕ → Option Entry
 
 -- the bytes of a source past its place
 abbrev pub left_of : Option Source → Option (List ℕ)
@@ -125,3 +130,45 @@ is_known m name = is_some (get_by_text m.entries name)
 -- what is left of the room of a name, listed calls or not
 abbrev pub room_in : MemFiles → List ℕ → Option ℕ
 room_in m name = free_at (get_by_text m.entries name)
+
+-- at a fault the count of the name is the next one
+abbrev pub IsReadCounted : {T E : Type 0} → MemFiles → MemFiles → List ℕ → Result T E → Type 0
+IsReadCounted old new name r = OnErr r ((seen_in new).read_faults name ≡ next ((seen_in old).read_faults name))
+
+abbrev pub IsWriteCounted : {T E : Type 0} → MemFiles → MemFiles → List ℕ → Result T E → Type 0
+IsWriteCounted old new name r = OnErr r ((seen_in new).write_faults name ≡ next ((seen_in old).write_faults name))
+
+-- counts at other names stay, where this name or the other is known
+abbrev pub ReadsAlone : MemFiles → MemFiles → List ℕ → Type 0
+ReadsAlone old new name = CountsAlone (is_known old) (seen_in old).read_faults (seen_in new).read_faults name
+
+abbrev pub WritesAlone : MemFiles → MemFiles → List ℕ → Type 0
+WritesAlone old new name = CountsAlone (is_known old) (seen_in old).write_faults (seen_in new).write_faults name
+
+-- the cause of a fault, at the name
+abbrev pub IsReadCaused : {T E : Type 0} → MemFiles → MemFiles → List ℕ → Result T E → Type 0
+IsReadCaused old new name r = HasCause ((seen_in old).read_faults name) ((seen_in new).read_faults name) r
+
+abbrev pub IsWriteCaused : {T E : Type 0} → MemFiles → MemFiles → List ℕ → Result T E → Type 0
+IsWriteCaused old new name r = HasCause ((seen_in old).write_faults name) ((seen_in new).write_faults name) r
+
+-- when a call succeeds: it isn't listed to fail, and the name may be read, or has room
+abbrev pub MayRead : MemFiles → List ℕ → Type 0
+MayRead m name = (fails_read m ≡ false) × (is_some ((seen_in m).left name) ≡ true)
+
+abbrev pub MayAdd : MemFiles → List ℕ → ℕ → Type 0
+MayAdd m name count = (fails_write m ≡ false) × HasRoom (room_in m name) count
+
+-- what a piece that is added, or isn't, leaves of the bytes and of the room
+abbrev pub added_if : Bool → List ℕ → List ℕ → List ℕ
+added_if fits bytes piece = if fits then bytes ++ piece else bytes
+
+abbrev pub lowered_if : Bool → Option ℕ → List ℕ → Option ℕ
+lowered_if fits room piece = if fits then lowered room (length piece) else room
+
+-- each name's entry gains a source, where it is this one, or a sink, where it is one of those
+abbrev pub EachGainsSource : Entries → Entries → List ℕ → List ℕ → Type 0
+EachGainsSource old new name bytes = (q : List ℕ) → GainsSource (old q) (new q) (bytes_eq q name) bytes
+
+abbrev pub EachGainsSink : Entries → Entries → (List ℕ → Bool) → ℕ → Type 0
+EachGainsSink old new named room = (q : List ℕ) → GainsSink (old q) (new q) (named q) room

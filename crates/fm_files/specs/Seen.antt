@@ -123,3 +123,27 @@ WritesSurely old new name r bytes = HasRoom (old.room name) (length bytes) → (
 -- these bytes are all that was left of the name
 abbrev pub ReadsAll : Seen → Seen → List ℕ → List ℕ → Type 0
 ReadsAll old new name bytes = Consumes (old.left name) (new.left name) bytes × IsAtEnd (new.left name)
+
+-- the same, of the bytes of a name in two states
+abbrev pub TakesOf : Seen → Seen → List ℕ → ℕ → Type 0
+TakesOf old new name most = Takes (old.left name) (new.left name) most
+
+abbrev pub TakesExactly : Seen → Seen → List ℕ → ℕ → Type 0
+TakesExactly old new name count = (bytes : List ℕ) × (length bytes ≡ count) × Consumes (old.left name) (new.left name) bytes
+
+abbrev pub ExtendsOf : Seen → Seen → List ℕ → List ℕ → Type 0
+ExtendsOf old new name bs = Extends (old.written name) (new.written name) bs
+
+abbrev pub ExtendsPartOf : Seen → Seen → List ℕ → List ℕ → Type 0
+ExtendsPartOf old new name bs = ExtendsPart (old.written name) (new.written name) bs
+
+-- the count of reads, or of writes, of the name rose
+abbrev pub ReadsRose : Seen → Seen → List ℕ → Type 0
+ReadsRose old new name = Rose (old.read_faults name) (new.read_faults name)
+
+abbrev pub HasWriteCause : {T E : Type 0} → Seen → Seen → List ℕ → Result T E → Type 0
+HasWriteCause old new name r = HasCause (old.write_faults name) (new.write_faults name) r
+
+-- no call of any name failed yet
+abbrev pub HasNoCounts : Seen → Type 0
+HasNoCounts s = (name : List ℕ) → (s.read_faults name ≡ 0) × (s.write_faults name ≡ 0)

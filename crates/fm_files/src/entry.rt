@@ -58,7 +58,7 @@ impl Source {
 }
 
 impl Sink {
-    ghost use Rattle.fm_files.specs.Entries.{sunk, free};
+    ghost use Rattle.fm_files.specs.Entries.{added_if, free, lowered_if, sunk};
 
     /// A sink with room for `room` bytes and none written.
     fn new(alloc: Global, room: usize) -> Result<Sink, AllocError>
@@ -72,8 +72,8 @@ impl Sink {
     /// Adds the piece where it fits the room, and answers whether it does.
     fn add(&mut self, piece: &[u8]) -> bool
         ensures fits { (result ≡ true) ↔ HasRoom (free (Some self.old)) (length piece.now) }
-        ensures sunk { sunk (Some self.new) ≡ (if result then sunk (Some self.old) ++ piece.now else sunk (Some self.old)) }
-        ensures room { free (Some self.new) ≡ (if result then lowered (free (Some self.old)) (length piece.now) else free (Some self.old)) }
+        ensures sunk { sunk (Some self.new) ≡ added_if result (sunk (Some self.old)) piece.now }
+        ensures room { free (Some self.new) ≡ lowered_if result (free (Some self.old)) piece.now }
     {
         if piece.len() > self.room - self.bytes.len() {
             return false;
@@ -90,7 +90,7 @@ impl Sink {
 }
 
 impl Entry {
-    ghost use Rattle.fm_files.specs.Entries.{FillsFrom, counted, left_of, next, sunk, free};
+    ghost use Rattle.fm_files.specs.Entries.{FillsFrom, added_if, counted, free, left_of, lowered_if, next, sunk};
 
     /// A name that may be read.
     pub fn with_source(bytes: Vec<u8>) -> Entry
@@ -199,8 +199,8 @@ impl Entry {
     pub fn append(&mut self, fails: bool, piece: &[u8]) -> Result<usize, Failed>
         ensures ok { IsOk result ↔ ((fails ≡ false) × HasRoom (free self.old.sink) (length piece.now)) }
         ensures all { IfOk result (λ k. k ≡ length piece.now) }
-        ensures sunk { sunk self.new.sink ≡ (if is_ok result then sunk self.old.sink ++ piece.now else sunk self.old.sink) }
-        ensures room { free self.new.sink ≡ (if is_ok result then lowered (free self.old.sink) (length piece.now) else free self.old.sink) }
+        ensures sunk { sunk self.new.sink ≡ added_if (is_ok result) (sunk self.old.sink) piece.now }
+        ensures room { free self.new.sink ≡ lowered_if (is_ok result) (free self.old.sink) piece.now }
         ensures source { self.new.source ≡ self.old.source }
         ensures reads { self.new.read_faults ≡ self.old.read_faults }
         ensures later { self.old.write_faults ≤ self.new.write_faults }

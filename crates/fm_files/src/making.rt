@@ -2,7 +2,7 @@ ghost use Rattle.std.specs.Prelude.{ℕ, List, string_bytes, IfOk, OnOk};
 ghost use Rattle.std.specs.BTreeMap.{get_by_text};
 ghost use Rattle.std.specs.Str.{bytes_eq};
 ghost use Rattle.fm_files.specs.Memory.{content_of, is_named};
-ghost use Rattle.fm_files.specs.Entries.{IsFresh, GainsSource, GainsSink};
+ghost use Rattle.fm_files.specs.Entries.{EachGainsSink, EachGainsSource, IsFresh};
 
 use crate::entry::Entry;
 use fm_base::Memory;
@@ -15,7 +15,7 @@ fn add_source(
     name: String,
     bytes: Vec<u8>,
 ) -> Result<(), Memory>
-    ensures { OnOk result ((q : List ℕ) → GainsSource (get_by_text entries.old q) (get_by_text entries.new q) (bytes_eq q (string_bytes name)) bytes.items) }
+    ensures { OnOk result (EachGainsSource (get_by_text entries.old) (get_by_text entries.new) (string_bytes name) bytes.items) }
 {
     if entries.contains_key(name.as_str()) {
         return Ok(());
@@ -45,7 +45,7 @@ fn add_sink(
     name: String,
     room: usize,
 ) -> Result<(), Memory>
-    ensures { OnOk result ((q : List ℕ) → GainsSink (get_by_text entries.old q) (get_by_text entries.new q) (bytes_eq q (string_bytes name)) room) }
+    ensures { OnOk result (EachGainsSink (get_by_text entries.old) (get_by_text entries.new) (λ q. bytes_eq q (string_bytes name)) room) }
 {
     match entries.get_mut(name.as_str()) {
         Some(entry) => entry.give_sink(alloc, room)?,
@@ -63,7 +63,7 @@ pub fn add_sinks(
     outs: Vec<String>,
     room: usize,
 ) -> Result<(), Memory>
-    ensures { OnOk result ((q : List ℕ) → GainsSink (get_by_text entries.old q) (get_by_text entries.new q) (is_named outs.items q) room) }
+    ensures { OnOk result (EachGainsSink (get_by_text entries.old) (get_by_text entries.new) (is_named outs.items) room) }
 {
     for name in outs {
         add_sink(alloc, entries, name, room)?;

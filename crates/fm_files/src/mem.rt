@@ -2,7 +2,7 @@ ghost use Rattle.std.specs.Prelude.{◌≡◌, ℕ, ◌+◌, ◌-◌, ◌^◌, �
 ghost use Rattle.std.specs.Io.{ReadsAtMost};
 ghost use Rattle.std.specs.List.{list_any};
 ghost use Rattle.fm_files.specs.Memory.{is_nil, is_listed as is_listed_in, room_given, IsNew};
-ghost use Rattle.fm_files.specs.Seen.{Adds, AddsSurely, Begins, BeginsSurely, CountsAlone, HasCause, HasRoom, NoFault, OnlyReads, ReadsInto, ReadsSurely, SameButAt, SameByName, WritesAt, lowered};
+ghost use Rattle.fm_files.specs.Seen.{Adds, AddsSurely, Begins, BeginsSurely, HasRoom, NoFault, OnlyReads, ReadsInto, ReadsSurely, SameButAt, SameByName, WritesAt, lowered};
 
 use crate::entry::Entry;
 use crate::files::{Failed, Files};
@@ -36,7 +36,8 @@ fn is_listed(numbers: &[u64], number: u64) -> bool
 }
 
 impl Files for MemFiles {
-    ghost use Rattle.fm_files.specs.Entries.{FillsFrom, seen_in, room_in, is_known, calls_of, next, after_read, after_write, fails_read, fails_write};
+    ghost use Rattle.fm_files.specs.Entries.{FillsFrom, IsReadCaused, IsReadCounted, IsWriteCaused, IsWriteCounted, MayAdd, MayRead, ReadsAlone, WritesAlone};
+    ghost use Rattle.fm_files.specs.Entries.{after_read, after_write, calls_of, fails_write, is_known, room_in, seen_in};
 
     ghost seen = { seen_in };
 
@@ -44,16 +45,16 @@ impl Files for MemFiles {
         ensures bound { ReadsAtMost result into.new }
         ensures bytes { ReadsInto (seen_in self.old) (seen_in self.new) name.now result into.new }
         ensures leaves { OnlyReads (seen_in self.old) (seen_in self.new) name.now }
-        ensures cause { HasCause ((seen_in self.old).read_faults name.now) ((seen_in self.new).read_faults name.now) result }
+        ensures cause { IsReadCaused self.old self.new name.now result }
         ensures never { ReadsSurely (seen_in self.old) (seen_in self.new) name.now result }
         ensures full { FillsFrom ((seen_in self.old).left name.now) result into.new }
-        ensures exact { IsOk result ↔ ((fails_read self.old ≡ false) × (is_some ((seen_in self.old).left name.now) ≡ true)) }
+        ensures exact { IsOk result ↔ MayRead self.old name.now }
         ensures free { SameByName (room_in self.old) (room_in self.new) }
         ensures calls { calls_of self.new ≡ after_read (calls_of self.old) }
         ensures known { SameByName (is_known self.old) (is_known self.new) }
-        ensures alone { CountsAlone (is_known self.old) (seen_in self.old).read_faults (seen_in self.new).read_faults name.now }
+        ensures alone { ReadsAlone self.old self.new name.now }
         ensures writes { SameByName (seen_in self.old).write_faults (seen_in self.new).write_faults }
-        ensures counted { OnErr result ((seen_in self.new).read_faults name.now ≡ next ((seen_in self.old).read_faults name.now)) }
+        ensures counted { IsReadCounted self.old self.new name.now result }
         ensures quiet { OnOk result (NoFault (seen_in self.old) (seen_in self.new)) }
     {
         self.reads = self.reads.saturating_add(1);
@@ -70,18 +71,18 @@ impl Files for MemFiles {
     fn begin(&mut self, name: &str) -> Result<(), Failed>
         ensures begins { Begins ((seen_in self.old).written name.now) ((seen_in self.new).written name.now) result }
         ensures leaves { WritesAt (seen_in self.old) (seen_in self.new) name.now }
-        ensures cause { HasCause ((seen_in self.old).write_faults name.now) ((seen_in self.new).write_faults name.now) result }
+        ensures cause { IsWriteCaused self.old self.new name.now result }
         ensures never { BeginsSurely (seen_in self.old) (seen_in self.new) name.now result }
         ensures exact { IsOk result ↔ ((fails_write self.old ≡ false) × (is_some (room_in self.old name.now) ≡ true)) }
         ensures room { (n : ℕ) → HasRoom (room_in self.old name.now) n → HasRoom (room_in self.new name.now) n }
         ensures free { SameButAt (room_in self.old) (room_in self.new) name.now }
         ensures calls { calls_of self.new ≡ after_write (calls_of self.old) }
         ensures known { SameByName (is_known self.old) (is_known self.new) }
-        ensures alone { CountsAlone (is_known self.old) (seen_in self.old).write_faults (seen_in self.new).write_faults name.now }
+        ensures alone { WritesAlone self.old self.new name.now }
         ensures reads { SameByName (seen_in self.old).read_faults (seen_in self.new).read_faults }
         ensures failed { OnErr result ((seen_in self.new).written name.now ≡ (seen_in self.old).written name.now) }
         ensures kept { OnErr result (room_in self.new name.now ≡ room_in self.old name.now) }
-        ensures counted { OnErr result ((seen_in self.new).write_faults name.now ≡ next ((seen_in self.old).write_faults name.now)) }
+        ensures counted { IsWriteCounted self.old self.new name.now result }
         ensures quiet { OnOk result (NoFault (seen_in self.old) (seen_in self.new)) }
     {
         self.writes = self.writes.saturating_add(1);
@@ -100,19 +101,19 @@ impl Files for MemFiles {
         ensures some { IfOk result (λ k. 0 < length piece.now → 0 < k) }
         ensures adds { Adds ((seen_in self.old).written name.now) ((seen_in self.new).written name.now) result piece.now }
         ensures leaves { WritesAt (seen_in self.old) (seen_in self.new) name.now }
-        ensures cause { HasCause ((seen_in self.old).write_faults name.now) ((seen_in self.new).write_faults name.now) result }
+        ensures cause { IsWriteCaused self.old self.new name.now result }
         ensures never { AddsSurely (seen_in self.old) (seen_in self.new) name.now result piece.now }
         ensures all { IfOk result (λ k. k ≡ length piece.now) }
-        ensures exact { IsOk result ↔ ((fails_write self.old ≡ false) × HasRoom (room_in self.old name.now) (length piece.now)) }
+        ensures exact { IsOk result ↔ MayAdd self.old name.now (length piece.now) }
         ensures room { IfOk result (λ k. room_in self.new name.now ≡ lowered (room_in self.old name.now) k) }
         ensures free { SameButAt (room_in self.old) (room_in self.new) name.now }
         ensures calls { calls_of self.new ≡ after_write (calls_of self.old) }
         ensures known { SameByName (is_known self.old) (is_known self.new) }
-        ensures alone { CountsAlone (is_known self.old) (seen_in self.old).write_faults (seen_in self.new).write_faults name.now }
+        ensures alone { WritesAlone self.old self.new name.now }
         ensures reads { SameByName (seen_in self.old).read_faults (seen_in self.new).read_faults }
         ensures failed { OnErr result ((seen_in self.new).written name.now ≡ (seen_in self.old).written name.now) }
         ensures kept { OnErr result (room_in self.new name.now ≡ room_in self.old name.now) }
-        ensures counted { OnErr result ((seen_in self.new).write_faults name.now ≡ next ((seen_in self.old).write_faults name.now)) }
+        ensures counted { IsWriteCounted self.old self.new name.now result }
         ensures quiet { OnOk result (NoFault (seen_in self.old) (seen_in self.new)) }
     {
         self.writes = self.writes.saturating_add(1);
@@ -128,7 +129,7 @@ impl Files for MemFiles {
 }
 
 impl MemFiles {
-    ghost use Rattle.fm_files.specs.Entries.{room_in, is_known, calls_of, no_calls};
+    ghost use Rattle.fm_files.specs.Entries.{calls_of, is_known, no_calls, room_in, seen_in};
 
     /// The files that may be read with their bytes, the names that may be written with their room, and the
     /// numbers of the calls that fail. Where a name stands twice in a list, its first entry counts.
@@ -140,7 +141,7 @@ impl MemFiles {
         fail_reads: Vec<u64>,
         fail_writes: Vec<u64>,
     ) -> Result<MemFiles, Memory>
-        ensures made { IfOk result (λ m. IsNew files.items outs.items room fail_reads.items fail_writes.items (⟦<MemFiles as Files>⟧.seen m)) }
+        ensures made { IfOk result (λ m. IsNew files.items outs.items room fail_reads.items fail_writes.items (seen_in m)) }
         ensures rooms { IfOk result (λ m. (name : List ℕ) → room_in m name ≡ room_given outs.items room name) }
         ensures known { IfOk result (λ m. (name : List ℕ) → is_known m name ≡ is_listed_in files.items outs.items name) }
         ensures calls { IfOk result (λ m. calls_of m ≡ no_calls fail_reads.items fail_writes.items) }

@@ -1,6 +1,7 @@
 ghost use Rattle.std.specs.Prelude.{◌≡◌, ℕ, List, ◌<◌, length, IfOk, IfSome, vec_len};
 ghost use Rattle.std.specs.Io.{ReadsAtMost, WritesAtMost};
 ghost use Rattle.fm_files.specs.Outside.{counts_only};
+ghost use Rattle.fm_files.specs.Seen.{HasNoCounts};
 
 use crate::files::{Failed, Files};
 use std::alloc::Global;
@@ -48,7 +49,7 @@ fn keep<F: Drop>(alloc: Global, files: &mut Vec<Open<F>>, name: &str, file: F) -
 impl<R: std::rt::Files + Input + Print + AllocGlobal> RealFiles<R> {
     /// No file is open yet, and both counts are 0.
     pub fn new(rt: R) -> RealFiles<R>
-        ensures { (name : List ℕ) → ((⟦<RealFiles<R> as Files>⟧.seen result).read_faults name ≡ 0) × ((⟦<RealFiles<R> as Files>⟧.seen result).write_faults name ≡ 0) }
+        ensures { HasNoCounts (⟦<RealFiles<R> as Files>⟧.seen result) }
     {
         let input = rt.reader();
         let readers = Vec::new(rt.alloc());

@@ -1,6 +1,6 @@
-ghost use Rattle.std.specs.Prelude.{◌≡◌, ◌≢◌, ℕ, ◌+◌, ◌≤◌, ◌<◌, ◌^◌, true, IfOk, OnOk, OnErr, IsOk, Err, List, length, vec_len};
-ghost use Rattle.std.specs.Io.KnownBytes.{Consumes};
-ghost use Rattle.fm_files.specs.Seen.{Extends, ExtendsPart, HasCause, NoFault, OnlyReads, ReadsAll, Rose, Takes, WritesAt, WritesSurely};
+ghost use Rattle.std.specs.Prelude.{◌≡◌, ◌≢◌, ◌+◌, ◌≤◌, ◌<◌, ◌^◌, IfOk, OnOk, OnErr, Err, length};
+ghost use Rattle.fm_files.specs.Whole.{IsReadSurely};
+ghost use Rattle.fm_files.specs.Seen.{ExtendsOf, ExtendsPartOf, HasWriteCause, NoFault, OnlyReads, ReadsAll, ReadsRose, TakesExactly, TakesOf, WritesAt, WritesSurely};
 ghost use Rattle.fm_files.specs.declared.whole.ReadError.{ReadError};
 
 use crate::files::{Failed, Files};
@@ -40,13 +40,13 @@ pub fn read_all<F: Files>(
     requires { limit + 1 < 2 ^ 64 }
     ensures all { IfOk result (λ v. ReadsAll (F.seen files.old) (F.seen files.new) name.now v.items) }
     ensures fits { IfOk result (λ v. length v.items ≤ limit) }
-    ensures long { result ≡ Err ReadError.TooLong → (bytes : List ℕ) × (length bytes ≡ limit + 1) × Consumes ((F.seen files.old).left name.now) ((F.seen files.new).left name.now) bytes }
-    ensures taken { Takes ((F.seen files.old).left name.now) ((F.seen files.new).left name.now) (limit + 1) }
-    ensures front { result ≡ Err ReadError.Fault → Takes ((F.seen files.old).left name.now) ((F.seen files.new).left name.now) limit }
-    ensures fault { result ≡ Err ReadError.Fault → Rose ((F.seen files.old).read_faults name.now) ((F.seen files.new).read_faults name.now) }
+    ensures long { result ≡ Err ReadError.TooLong → TakesExactly (F.seen files.old) (F.seen files.new) name.now (limit + 1) }
+    ensures taken { TakesOf (F.seen files.old) (F.seen files.new) name.now (limit + 1) }
+    ensures front { result ≡ Err ReadError.Fault → TakesOf (F.seen files.old) (F.seen files.new) name.now limit }
+    ensures fault { result ≡ Err ReadError.Fault → ReadsRose (F.seen files.old) (F.seen files.new) name.now }
     ensures leaves { OnlyReads (F.seen files.old) (F.seen files.new) name.now }
     ensures quiet { result ≢ Err ReadError.Fault → NoFault (F.seen files.old) (F.seen files.new) }
-    ensures never { (F.seen files.old).is_sure name.now ≡ true → (result ≢ Err ReadError.Fault) × NoFault (F.seen files.old) (F.seen files.new) }
+    ensures never { IsReadSurely (F.seen files.old) (F.seen files.new) name.now result }
 {
     let mut bytes = Vec::new(alloc);
     let mut chunk = [0u8; 4096];
@@ -66,10 +66,10 @@ pub fn read_all<F: Files>(
 
 /// Appends all the bytes to the name, in as many pieces as the name takes them. It takes no memory.
 pub fn write_all_of<F: Files>(files: &mut F, name: &str, bytes: &[u8]) -> Result<(), Failed>
-    ensures ok { OnOk result (Extends ((F.seen files.old).written name.now) ((F.seen files.new).written name.now) bytes.now) }
-    ensures part { OnErr result (ExtendsPart ((F.seen files.old).written name.now) ((F.seen files.new).written name.now) bytes.now) }
+    ensures ok { OnOk result (ExtendsOf (F.seen files.old) (F.seen files.new) name.now bytes.now) }
+    ensures part { OnErr result (ExtendsPartOf (F.seen files.old) (F.seen files.new) name.now bytes.now) }
     ensures leaves { WritesAt (F.seen files.old) (F.seen files.new) name.now }
-    ensures cause { HasCause ((F.seen files.old).write_faults name.now) ((F.seen files.new).write_faults name.now) result }
+    ensures cause { HasWriteCause (F.seen files.old) (F.seen files.new) name.now result }
     ensures quiet { OnOk result (NoFault (F.seen files.old) (F.seen files.new)) }
     ensures never { WritesSurely (F.seen files.old) (F.seen files.new) name.now result bytes.now }
 {

@@ -1,5 +1,5 @@
 -- Commands as plain values: the place of the parenthesis, and the parts of the shape in order.
-use Rattle.std.specs.Prelude.{ℕ, List, map, Option}
+use Rattle.std.specs.Prelude.{◌≡◌, ℕ, List, map, MatchOption, Option, Some, None}
 use Rattle.std.specs.Option.{option_map}
 use Rattle.fm_base.specs.declared.refusal.Place.{Place}
 use Rattle.fm_sexp.specs.declared.items.Sexp.{Sexp}
@@ -59,3 +59,7 @@ shown (Command.GetModel at) = Shown.GetModel at
 shown (Command.Exit at) = Shown.Exit at
 shown (Command.GetValue at terms) = Shown.GetValue at (map (λ i. i.now) terms.items)
 shown (Command.Echo at text) = Shown.Echo at (name_shown text)
+
+-- None where there is nothing, else what the value shows
+abbrev pub IsShownBy : {A B : Type 0} → Option B → (A → B) → Option A → Type 0
+IsShownBy found shows o = MatchOption o (found ≡ None) (λ v. found ≡ Some (shows v))

@@ -1,5 +1,5 @@
 -- The items that are parts of a command lie within the text.
-use Rattle.std.specs.Prelude.{ℕ, Bool, true, ◌&&◌, List, map, Option, Some, None}
+use Rattle.std.specs.Prelude.{◌≡◌, ℕ, IfSome, Bool, true, ◌&&◌, List, map, Option, Some, None}
 use Rattle.fm_sexp.specs.Items.{spans_within, all_within, all_hold}
 use Rattle.fm_sexp.specs.declared.items.Sexp.{Sexp}
 use Rattle.fm_script.specs.Shown.{Shown, Name}
@@ -29,3 +29,7 @@ parts_within n (Shown.GetModel at) = true
 parts_within n (Shown.Exit at) = true
 parts_within n (Shown.GetValue at terms) = all_within n terms
 parts_within n (Shown.Echo at text) = true
+
+-- the parameters that a value shows, where there is one, lie within the text
+abbrev pub AreWithinBy : {A : Type 0} → ℕ → (A → List (Name × Sexp)) → Option A → Type 0
+AreWithinBy n shows o = IfSome o (λ v. parameters_within n (shows v) ≡ true)

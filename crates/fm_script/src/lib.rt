@@ -6,5 +6,5 @@ mod read;
 mod words;
 
 pub use command::{Command, Number, Part};
-pub use read::read_command;
-pub use words::{members, name, place};
+pub use read::{parameters, read_command};
+pub use words::{keyword, members, name, place, references, symbol};

@@ -3,8 +3,8 @@ ghost use Rattle.std.specs.Option.{option_map};
 ghost use Rattle.fm_base.specs.declared.refusal.Fail.TheVariants as fail;
 ghost use Rattle.fm_sexp.specs.Items.{spans_within, all_within};
 ghost use Rattle.fm_script.specs.Commands.{bad_shape, unknown_command, too_wide, AreLevels, IsAnswer, command_of, list_command, by_head as by_head_of, by_later_head as by_later_head_of, set_logic_of, set_option_of, set_info_of, get_info_of, declare_sort_of, define_sort_of, declare_const_of, declare_fun_of, define_fun_of, assert_of, levels_of, push_of, pop_of, get_value_of, echo_of, alone as alone_of, parameter_of, parameters_of};
-ghost use Rattle.fm_script.specs.Shown.{name_shown, shown};
-ghost use Rattle.fm_script.specs.Within.{parts_within, parameters_within};
+ghost use Rattle.fm_script.specs.Shown.{IsShownBy, name_shown, shown};
+ghost use Rattle.fm_script.specs.Within.{AreWithinBy, parts_within};
 
 use crate::command::{Command, Number, Part};
 use crate::words::{
@@ -296,14 +296,16 @@ fn parameter<'a>(text: &'a [u8], item: &'a Sexp) -> Option<(Part<'a>, &'a Sexp)>
     }
 }
 
-fn parameters<'a>(
+/// The names with their sorts that a list of parameters, or of quantified variables, has; None where an item is no such
+/// pair.
+pub fn parameters<'a>(
     alloc: Global,
     text: &'a [u8],
     items: &'a [Sexp],
 ) -> Result<Option<Vec<(Part<'a>, &'a Sexp)>>, AllocError>
     requires { all_within (length text.now) items.now ≡ true }
-    ensures value { IfOk result (λ o. MatchOption o (parameters_of text.now items.now ≡ None) (λ v. parameters_of text.now items.now ≡ Some (map (λ p. (name_shown p.0, p.1.now)) v.items))) }
-    ensures within { IfOk result (λ o. IfSome o (λ v. parameters_within (length text.now) (map (λ p. (name_shown p.0, p.1.now)) v.items) ≡ true)) }
+    ensures value { IfOk result (λ o. IsShownBy (parameters_of text.now items.now) (λ v. map (λ p. (name_shown p.0, p.1.now)) v.items) o) }
+    ensures within { IfOk result (λ o. AreWithinBy (length text.now) (λ v. map (λ p. (name_shown p.0, p.1.now)) v.items) o) }
 {
     let mut list = Vec::new(alloc);
     for item in items {

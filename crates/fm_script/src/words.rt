@@ -29,8 +29,8 @@ fn part(text: &[u8], start: usize, end: usize, at: Place) -> Part<'_>
     Part { bytes, at }
 }
 
-// The bytes of a symbol, reserved or not.
-pub(crate) fn symbol<'a>(text: &'a [u8], item: &Sexp) -> Option<&'a [u8]>
+/// The bytes of a symbol, reserved or not; None for another word and for a list.
+pub fn symbol<'a>(text: &'a [u8], item: &Sexp) -> Option<&'a [u8]>
     requires { spans_within (length text.now) item.now ≡ true }
     ensures { option_map (λ s. s.now) result ≡ symbol_of text.now item.now }
 {
@@ -45,7 +45,7 @@ pub(crate) fn symbol<'a>(text: &'a [u8], item: &Sexp) -> Option<&'a [u8]>
     }
 }
 
-/// A name, without its bars.
+/// A name, without its bars; None for a reserved word, for another word and for a list.
 pub fn name<'a>(text: &'a [u8], item: &Sexp) -> Option<Part<'a>>
     requires { spans_within (length text.now) item.now ≡ true }
     ensures { option_map name_shown result ≡ name_of text.now item.now }
@@ -77,8 +77,8 @@ pub fn name<'a>(text: &'a [u8], item: &Sexp) -> Option<Part<'a>>
     }
 }
 
-// A keyword, with its colon.
-pub(crate) fn keyword<'a>(text: &'a [u8], item: &Sexp) -> Option<Part<'a>>
+/// A keyword, with its colon; None for another word and for a list.
+pub fn keyword<'a>(text: &'a [u8], item: &Sexp) -> Option<Part<'a>>
     requires { spans_within (length text.now) item.now ≡ true }
     ensures { option_map name_shown result ≡ keyword_of text.now item.now }
 {
@@ -125,7 +125,7 @@ pub(crate) fn digits<'a>(text: &'a [u8], item: &Sexp) -> Option<Part<'a>>
     }
 }
 
-/// The members of a list.
+/// The members of a list; None for a word.
 pub fn members(item: &Sexp) -> Option<&[Sexp]>
     ensures value { option_map (λ s. s.now) result ≡ members_of item.now }
     ensures within { (n : ℕ) → spans_within n item.now ≡ true → IfSome result (λ s. all_within n s.now ≡ true) }
@@ -223,8 +223,8 @@ pub(crate) fn is_truth_name(text: &[u8], item: &Sexp) -> bool
     }
 }
 
-// References to the items.
-pub(crate) fn references<'a>(alloc: Global, items: &'a [Sexp]) -> Result<Vec<&'a Sexp>, AllocError>
+/// References to the items.
+pub fn references<'a>(alloc: Global, items: &'a [Sexp]) -> Result<Vec<&'a Sexp>, AllocError>
     ensures { IfOk result (λ v. map (λ i. i.now) v.items ≡ items.now) }
 {
     let mut list = Vec::new(alloc);

@@ -1,7 +1,7 @@
 -- What a reader holds while it goes through a text.
-use Rattle.std.specs.Prelude.{◌≡◌, ℕ, List, [], ◌∷◌, ◌++◌, Some}
+use Rattle.std.specs.Prelude.{◌≡◌, ℕ, List, [], ◌∷◌, ◌++◌, length, Some}
 use Rattle.fm_base.specs.declared.refusal.Reason.{Reason}
-use Rattle.fm_sexp.specs.Pieces.{Covers, depth_after}
+use Rattle.fm_sexp.specs.Pieces.{Covers, depth_after, depth_with}
 use Rattle.fm_sexp.specs.Items.{Token, tokens, flat_all}
 use Rattle.fm_sexp.specs.declared.pieces.Shape.{Shape}
 use Rattle.fm_sexp.specs.declared.pieces.Piece.{Piece}
@@ -28,3 +28,7 @@ pub record IsReadTo (text : List ℕ) (to : ℕ) (depth : ℕ) (read : List Toke
   pub covers : Covers text 0 pieces to
   pub depths : depth_after pieces ≡ Some depth
   pub tree : read ≡ tokens text 0 pieces
+
+-- the lists that are open after a piece, which is lawful
+abbrev pub OpensBy : Builder → Builder → Shape → Type 0
+OpensBy old new shape = depth_with (length old.frames.items) shape ≡ Some (length new.frames.items)

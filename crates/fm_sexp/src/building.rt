@@ -1,7 +1,7 @@
 ghost use Rattle.std.specs.Prelude.{◌≡◌, ◌+◌, ◌<◌, ◌≤◌, ◌^◌, List, [], ◌∷◌, ◌++◌, length, OnOk, IfSome, IfNone, Some, is_some, true};
 ghost use Rattle.fm_sexp.specs.Pieces.{depth_with};
 ghost use Rattle.fm_sexp.specs.Items.{Token, token_of};
-ghost use Rattle.fm_sexp.specs.Building.{IsStopped, so_far};
+ghost use Rattle.fm_sexp.specs.Building.{IsStopped, OpensBy, so_far};
 
 use crate::items::Sexp;
 use crate::pieces::{Kind, Piece, Shape};
@@ -113,7 +113,7 @@ impl Builder {
         requires lawful { is_some (depth_with (length self.old.frames.items) piece.shape) ≡ true }
         requires fits { start + piece.len < 2 ^ 64 }
         ensures so_far { OnOk result (so_far self.new ≡ so_far self.old ++ token_of at start piece.len piece.shape) }
-        ensures frames { OnOk result (depth_with (length self.old.frames.items) piece.shape ≡ Some (length self.new.frames.items)) }
+        ensures frames { OnOk result (OpensBy self.old self.new piece.shape) }
     {
         match piece.shape {
             Shape::Open => self.open(alloc, start, at),

@@ -44,3 +44,11 @@ pub record IsLeastDeciding (m : Reading) (all : Bool) (vars : List SortId) (body
   pub elements : IsElements m vars tuple
   pub decides : truth body m (env ++ tuple) ≡ not all
   pub least : (other : List ℕ) → IsElements m vars other → truth body m (env ++ other) ≡ not all → precedes other tuple ≡ false
+
+-- the tuple goes on: the new one, if there is one, is the next after the old
+abbrev pub GoesOn : Reading → List SortId → ℕ → List ℕ → List ℕ → Bool → Type 0
+GoesOn r sorts depth old new more = if_any more (tuple_of sorts depth new) ≡ next_of r sorts (tuple_of sorts depth old)
+
+-- the least tuple that decides stands behind the `depth` variables in scope
+abbrev pub LeavesDeciding : Reading → Bool → List SortId → Formula → ℕ → List ℕ → List ℕ → Type 0
+LeavesDeciding m all vars body depth old new = IsLeastDeciding m all vars body (take depth old) (tuple_of vars depth new)

@@ -2,10 +2,10 @@ ghost use Rattle.std.specs.Prelude.{◌≡◌, ◌+◌, ◌≤◌, ◌++◌, [],
 ghost use Rattle.fm_base.specs.Interpretations.{reading_of, is_fit};
 ghost use Rattle.fm_base.specs.Truth.{truth, value as value_of, all_true, some_true, is_closed, sort_of};
 ghost use Rattle.fm_base.specs.declared.signature.Sig.{Sig as TheSig};
-ghost use Rattle.fm_truth.specs.Evaluating.{applied_under, block_under, values_under};
+ghost use Rattle.fm_truth.specs.Evaluating.{PutsValues, applied_under, block_under};
 ghost use Rattle.fm_truth.specs.Lookup.{tables_ascend};
 ghost use Rattle.fm_truth.specs.Room.{IsWithin, largest, arguments, room_of, room_of_term};
-ghost use Rattle.fm_truth.specs.Tuples.{IsLeastDeciding, tuple_of};
+ghost use Rattle.fm_truth.specs.Tuples.{LeavesDeciding};
 
 use crate::lookup::{apply, part};
 use crate::rooms::{Env, Taken};
@@ -160,7 +160,7 @@ fn put_values(interp: &Interp, terms: &[Fterm], vars: &mut [u64], args: &mut [u6
     requires tables { tables_ascend interp.now ≡ true }
     requires vars { taken.vars + (arguments (map room_of_term terms.now)).vars ≤ length vars.old }
     requires args { taken.args + (arguments (map room_of_term terms.now)).args ≤ length args.old }
-    ensures values { take (taken.args + length terms.now) args.new ≡ take taken.args args.old ++ values_under (reading_of interp.now) (take taken.vars vars.old) terms.now }
+    ensures values { PutsValues (reading_of interp.now) (take taken.vars vars.old) terms.now taken.args args.old args.new }
     ensures same_vars { take taken.vars vars.new ≡ take taken.vars vars.old }
 {
     for (i, term) in terms.iter().enumerate() {
@@ -234,7 +234,7 @@ pub(crate) fn block_holds(
     requires vars { taken.vars + (length sorts.now + (room_of body.now).vars) ≤ length vars.old }
     requires args { taken.args + (room_of body.now).args ≤ length args.old }
     ensures value { result ≡ block_under (reading_of interp.now) (take taken.vars vars.old) all sorts.now body.now }
-    ensures least { result ≡ not all → IsLeastDeciding (reading_of interp.now) all sorts.now body.now (take taken.vars vars.old) (tuple_of sorts.now taken.vars vars.new) }
+    ensures least { result ≡ not all → LeavesDeciding (reading_of interp.now) all sorts.now body.now taken.vars vars.old vars.new }
     ensures same_vars { take taken.vars vars.new ≡ take taken.vars vars.old }
     ensures same_args { take taken.args args.new ≡ take taken.args args.old }
 {

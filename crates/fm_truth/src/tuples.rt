@@ -1,6 +1,6 @@
 ghost use Rattle.std.specs.Prelude.{◌≡◌, ◌+◌, ◌≤◌, take, length};
 ghost use Rattle.fm_base.specs.Interpretations.{reading_of};
-ghost use Rattle.fm_truth.specs.Tuples.{first_of, next_of, tuple_of, if_any};
+ghost use Rattle.fm_truth.specs.Tuples.{GoesOn, first_of, if_any, tuple_of};
 
 use crate::lookup::size;
 use fm_base::{Interp, SortId};
@@ -25,7 +25,7 @@ pub(crate) fn first_tuple(interp: &Interp, sorts: &[SortId], vars: &mut [u64], d
 // behind it begin anew.
 pub(crate) fn next_tuple(interp: &Interp, sorts: &[SortId], vars: &mut [u64], depth: usize) -> bool
     requires { depth + length sorts.now ≤ length vars.old }
-    ensures next { if_any result (tuple_of sorts.now depth vars.new) ≡ next_of (reading_of interp.now) sorts.now (tuple_of sorts.now depth vars.old) }
+    ensures next { GoesOn (reading_of interp.now) sorts.now depth vars.old vars.new result }
     ensures same { take depth vars.new ≡ take depth vars.old }
 {
     let mut i = sorts.len();
