@@ -1,5 +1,5 @@
 -- How the terms of an arena grow.
-use Rattle.std.proofs.Common.{◌≡◌, ℕ, zero, suc, ◌+◌, Bool, true, false, List, [], ◌∷◌, ◌++◌, length, map, ap, refl, sym, subst, ◌∙◌, arith}
+use Rattle.std.proofs.Common.{◌≡◌, ℕ, zero, suc, ◌+◌, Bool, true, false, List, [], ◌∷◌, ◌++◌, length, map, ap, refl, sym, ◌∙◌, arith}
 use Rattle.std.specs.Prelude.{slice_get, nat_lt, cond, ◌-◌}
 use Rattle.std.proofs.lemmas.List.{length_push}
 use Rattle.fm_base.specs.Truth.{is_bool}
@@ -80,7 +80,7 @@ plain_inside base depth names h = λ place d. plain_chosen (nat_lt place base) (
 pub plain_none : ArePlain no_names
 plain_none = λ place d. measure_of_truth true
 
-of_kind_weighs : (truth : Bool) (t : Tree) → tree_measure t ≡ over [] → tree_measure (of_kind truth t) ≡ over []
+pub of_kind_weighs : (truth : Bool) (t : Tree) → tree_measure t ≡ over [] → tree_measure (of_kind truth t) ≡ over []
 of_kind_weighs true (Tree.Truth f) e = e
 of_kind_weighs true (Tree.Thing t) e = measure_of_truth true
 of_kind_weighs false (Tree.Truth f) e = measure_of_var 0
@@ -132,10 +132,6 @@ length_terms es = let h : length (terms_after [] es) ≡ 0 + length es = length_
 pub pushed_terms : (inside old new : List Entry) (e : Entry) → inside ≡ old → new ≡ inside ++ e ∷ [] → terms_of new ≡ terms_of old ++ term_of (terms_of old) e ∷ []
 pushed_terms inside old new e v p = ap terms_of p ∙ terms_push inside e ∙ ap (λ (es : List Entry). terms_of es ++ term_of (terms_of es) e ∷ []) v
 
-pub pushed_measured : (old new : List Entry) (e : Entry) → new ≡ old ++ e ∷ [] → AreMeasured (terms_of old) old → IsMeasured (term_of (terms_of old) e) e → AreMeasured (terms_of new) new
-pushed_measured old new e p h k =
-    subst (λ (es : List Entry). AreMeasured (terms_of es) es) (sym p) (subst (λ (ts : List Term). AreMeasured ts (old ++ e ∷ [])) (sym (terms_push old e)) (measured_push (terms_of old) old (term_of (terms_of old) e) e h k))
-
 pub number_is : (inside old : List Entry) (n : ℕ) → inside ≡ old → n ≡ length inside → n ≡ length (terms_of old)
 number_is inside old n v e = e ∙ ap length v ∙ sym (length_terms old)
 
@@ -146,7 +142,7 @@ made_fits es op is b h fits e = e ∙ ap is_fit (sym (made_weighs (terms_of es) 
 pub quantified_fits : (es : List Entry) (all : Bool) (vars : List SortId) (base body : ℕ) (b : Bool) → AreMeasured (terms_of es) es → kind_at (terms_of es) body ≡ true → b ≡ is_fit (over (kept_at es body ∷ [])) → b ≡ is_fit (measure_of (quantified all vars base (meaning_at (terms_of es) body)))
 quantified_fits es all vars base body b h kind e = e ∙ ap is_fit (sym (quantified_weighs (terms_of es) es all vars base body h kind no_names 0 plain_none))
 
-type_is : (ts : List Term) (es : List Entry) (i : ℕ) → AreMeasured ts es → type_at ts i ≡ entry_type (slice_get es i)
+pub type_is : (ts : List Term) (es : List Entry) (i : ℕ) → AreMeasured ts es → type_at ts i ≡ entry_type (slice_get es i)
 type_is [] [] i h = refl
 type_is [] (x ∷ es) i h = absurd h
 type_is (x ∷ ts) [] i h = absurd h

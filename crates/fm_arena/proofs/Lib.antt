@@ -5,3 +5,11 @@ pub mod Reading
 pub mod Pairing
 pub mod Cutting
 pub mod Closing
+pub mod Weighing
+pub mod Giving
+pub mod Using
+pub mod Adding
+pub mod Reaching
+pub mod Passing
+pub mod Finding
+pub mod Framing

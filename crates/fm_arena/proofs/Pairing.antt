@@ -26,7 +26,7 @@ each_map : {A B : Type 0} (f : A → B) (x : A) (ys : List A) → each_pair (f x
 each_map f x [] = refl
 each_map f x (y ∷ ys) = ap (λ l. f x ∷ f y ∷ l) (each_map f x ys)
 
-flat_map : {A B : Type 0} (f : A → B) (xs : List A) → flat_pairs (map f xs) ≡ map f (flat_pairs xs)
+pub flat_map : {A B : Type 0} (f : A → B) (xs : List A) → flat_pairs (map f xs) ≡ map f (flat_pairs xs)
 flat_map f [] = refl
 flat_map f (x ∷ xs) = ap (λ l. l ++ flat_pairs (map f xs)) (each_map f x xs) ∙ ap (λ l. map f (each_pair x xs) ++ l) (flat_map f xs) ∙ sym (map-append f (each_pair x xs) (flat_pairs xs))
 

@@ -6,6 +6,7 @@ use Rattle.fm_base.specs.Truth.{is_bool}
 use Rattle.fm_arena.specs.Trees.{is_truth}
 use Rattle.fm_arena.specs.Measures.{tree_measure, one, pair_measure, total, deepest, is_fit}
 use Rattle.fm_arena.specs.Meanings.{Making, Names, Term, measure_of, term_of, terms_of}
+use Rattle.fm_arena.specs.Weights.{Weights, read_as, weighed_of, Follows, AreWeighedAfter}
 use Rattle.fm_arena.specs.declared.node.Entry.{Entry}
 use Rattle.fm_arena.specs.declared.sizes.Measure.{Measure}
 
@@ -45,13 +46,21 @@ AreMeasured [] (e ∷ es) = ⊥
 AreMeasured (t ∷ ts) [] = ⊥
 AreMeasured (t ∷ ts) (e ∷ es) = IsMeasured t e × AreMeasured ts es
 
+-- the arguments of a use, by what is kept of them
+abbrev pub kept_argument : List Entry → Option ℕ → Bool → Measure
+kept_argument es None truth = one
+kept_argument es (Some i) truth = read_as (is_bool (entry_type (slice_get es i))) truth (kept_at es i)
+
+abbrev pub kept_arguments : List Entry → List ℕ → Weights
+kept_arguments es is place truth = kept_argument es (slice_get is place) truth
+
 -- what is kept in an arena is right
 abbrev pub AreKept : List Entry → Type 0
-AreKept es = AreMeasured (terms_of es) es
+AreKept es = AreMeasured (terms_of es) es × AreWeighedAfter [] [] es
 
 -- an entry may stand behind others: what is kept with it is right
 abbrev pub MayFollow : List Entry → Entry → Type 0
-MayFollow es e = IsMeasured (term_of (terms_of es) e) e
+MayFollow es e = IsMeasured (term_of (terms_of es) e) e × Follows (terms_of es) (weighed_of es) e
 
 abbrev pub terms_with : List Entry → Entry → List Term
 terms_with es e = terms_of es ++ term_of (terms_of es) e ∷ []

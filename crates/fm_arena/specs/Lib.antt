@@ -3,5 +3,7 @@ pub mod Trees
 pub mod Measures
 pub mod Meanings
 pub mod Kept
+pub mod Weights
 pub mod Pairs
 pub mod Frames
+pub mod Passes

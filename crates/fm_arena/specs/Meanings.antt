@@ -52,9 +52,13 @@ made op ms names d = built op (meanings_at ms names d)
 abbrev pub quantified : Bool → List SortId → ℕ → Meaning → Meaning
 quantified all vars base body names d = Tree.Truth (Formula.Quant all vars (formula_in (body (inside base d names) (d + length vars))))
 
+-- what stands for the parameters of a definition that is used
+abbrev pub given : List Meaning → Names → Names
+given args names place = get_or (map (λ (a : Meaning). a names) args) place nowhere
+
 -- a definition that is used: its body, where each parameter stands for its argument
 abbrev pub applied : Meaning → List Meaning → Meaning
-applied body args names d = body (λ place. get_or (map (λ (a : Meaning). a names) args) place nowhere) d
+applied body args names d = body (given args names) d
 
 -- where there is no term
 abbrev pub absent : Meaning
@@ -104,6 +108,8 @@ abbrev pub meaning_of : List Term → Node → Meaning
 meaning_of ts (Node.Name place truth) = named place truth
 meaning_of ts (Node.Made op parts) = made op (map (meaning_at ts) parts)
 meaning_of ts (Node.Quant all vars base body) = quantified all vars base (meaning_at ts body)
+meaning_of ts (Node.Defined body form) = meaning_at ts body
+meaning_of ts (Node.Use body args form) = applied (meaning_at ts body) (map (meaning_at ts) args)
 
 abbrev pub tree_at : List Term → ℕ → Tree
 tree_at ts i = closed (meaning_at ts i)
@@ -123,6 +129,13 @@ term_made op ty parts ts = record { ty = ty; meaning = made op (map (meaning_at 
 -- a block over a term
 abbrev pub block_made : Bool → List SortId → ℕ → ℕ → Making
 block_made all vars base body ts = record { ty = Ty.Bool; meaning = quantified all vars base (meaning_at ts body) }
+
+-- a definition with a body, and its use
+abbrev pub definition_made : ℕ → Making
+definition_made body ts = term_in ts body
+
+abbrev pub use_made : ℕ → List ℕ → Making
+use_made body args ts = record { ty = type_at ts body; meaning = applied (meaning_at ts body) (map (meaning_at ts) args) }
 
 abbrev pub term_of : List Term → Entry → Term
 term_of ts e = record { ty = e.ty; meaning = meaning_of ts e.node }

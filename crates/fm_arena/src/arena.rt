@@ -2,12 +2,16 @@ ghost use Rattle.std.specs.Prelude.{◌≡◌, [], map, length, take, true, IfOk
 ghost use Rattle.fm_base.specs.Truth.{is_bool};
 ghost use Rattle.fm_arena.specs.Trees.{makes_truth, takes};
 ghost use Rattle.fm_arena.specs.Measures.{is_fit};
-ghost use Rattle.fm_arena.specs.Meanings.{block_made, kind_at, meaning_at, measure_of, name_made};
-ghost use Rattle.fm_arena.specs.Meanings.{term_made, terms_of, type_at};
+ghost use Rattle.fm_arena.specs.Meanings.{block_made, definition_made, kind_at, meaning_at, measure_of, name_made};
+ghost use Rattle.fm_arena.specs.Meanings.{term_made, terms_of, type_at, use_made};
+ghost use Rattle.fm_arena.specs.Weights.{IsUse, weighed_of};
 ghost use Rattle.fm_arena.specs.Kept.{Adds, AreKept, IsAdded, IsSomeIfFit, MayFollow, entry_type, terms_with};
 
+use crate::forms::{Form, measure_use};
+use crate::found::found_form;
 use crate::node::{Entry, Node, Op};
-use crate::sizes::{Measure, kept, measure_over, measure_under};
+use crate::passes::form_of;
+use crate::sizes::{Measure, kept, measure_over, measure_under, type_of};
 use fm_base::{Memory, SortId, Ty};
 use sqlite_items::Items;
 use std::alloc::Global;
@@ -33,15 +37,6 @@ impl Model for Arena {
     ghost invariant = { λ a. AreKept a.entries.items };
 }
 
-fn type_of(entries: &[Entry], number: usize) -> Ty
-    ensures { result ≡ entry_type (slice_get entries.now number) }
-{
-    match entries.get(number) {
-        None => Ty::Bool,
-        Some(entry) => entry.ty,
-    }
-}
-
 #[tactic(auto, using(crate::proofs::Growing::length_terms))]
 fn count(entries: &[Entry]) -> usize
     ensures { result ≡ length (terms_of entries.now) }
@@ -49,7 +44,7 @@ fn count(entries: &[Entry]) -> usize
     entries.len()
 }
 
-#[tactic(auto, using(crate::proofs::Growing::pushed_terms, crate::proofs::Growing::pushed_measured))]
+#[tactic(auto, using(crate::proofs::Growing::pushed_terms, crate::proofs::Weighing::pushed_kept))]
 fn add(entries: &mut Vec<Entry>, entry: Entry) -> Result<usize, Memory>
     ensures number { IfOk result (λ n. n ≡ length (terms_of entries.old.items)) }
     ensures terms { OnOk result (terms_of entries.new.items ≡ terms_with entries.old.items entry) }
@@ -160,6 +155,63 @@ impl Arena {
             body,
         };
         let ty = Ty::Bool;
+        let number = add(&mut self.entries, Entry { node, ty, measure })?;
+        Ok(Some(number))
+    }
+
+    /// Adds an earlier term as the body of a definition, whose parameters are the names from 0 on, and answers
+    /// its number. It reads as its body; its uses are told their measures by what is kept with it.
+    pub fn define(&mut self, alloc: Global, body: usize, params: usize) -> Result<usize, Memory>
+        ensures number { IfOk result (λ n. n ≡ length (terms_of self.old)) }
+        ensures added { OnOk result (IsAdded self.old self.new (definition_made body)) }
+        ensures err { OnErr result (self.new ≡ self.old) }
+    {
+        let form = form_of(alloc, self.entries.as_slice(), body, params)?;
+        let ty = type_of(self.entries.as_slice(), body);
+        let measure = kept(self.entries.as_slice(), body);
+        let node = Node::Defined { body, form };
+        let number = add(&mut self.entries, Entry { node, ty, measure })?;
+        Ok(number)
+    }
+
+    /// Adds a term where its names stand for arguments, the name 0 for the first, and answers its number; None
+    /// where it is too large. Names past the arguments stand for `true`. A term that isn't a definition is gone
+    /// over anew at each use.
+    pub fn apply(
+        &mut self,
+        alloc: Global,
+        body: usize,
+        args: Items<usize>,
+    ) -> Result<Option<usize>, Memory>
+        ensures number { IfOk result (λ o. IfSome o (λ n. n ≡ length (terms_of self.old))) }
+        ensures added { Adds self.old self.new (use_made body args) result }
+        ensures fit { IsSomeIfFit self.old (use_made body args) result }
+        ensures none { IfOk result (λ o. IfNone o (self.new ≡ self.old)) }
+        ensures err { OnErr result (self.new ≡ self.old) }
+    {
+        let form = found_form(alloc, self.entries.as_slice(), body, args.len())?;
+        self.apply_form(body, args, form)
+    }
+
+    // Adds the use of a definition that has a form, and answers its number; None where it is too large.
+    fn apply_form(
+        &mut self,
+        body: usize,
+        args: Items<usize>,
+        form: Form,
+    ) -> Result<Option<usize>, Memory>
+        requires { IsUse (weighed_of self.old) body args form }
+        ensures number { IfOk result (λ o. IfSome o (λ n. n ≡ length (terms_of self.old))) }
+        ensures added { Adds self.old self.new (use_made body args) result }
+        ensures fit { IsSomeIfFit self.old (use_made body args) result }
+        ensures none { IfOk result (λ o. IfNone o (self.new ≡ self.old)) }
+        ensures err { OnErr result (self.new ≡ self.old) }
+    {
+        let ty = type_of(self.entries.as_slice(), body);
+        let Some(measure) = measure_use(self.entries.as_slice(), &form, args.as_slice()) else {
+            return Ok(None);
+        };
+        let node = Node::Use { body, args, form };
         let number = add(&mut self.entries, Entry { node, ty, measure })?;
         Ok(Some(number))
     }

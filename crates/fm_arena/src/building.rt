@@ -1,9 +1,8 @@
-ghost use Rattle.std.specs.Prelude.{◌≡◌, ◌++◌, ◌∷◌, List, IfOk, OnOk, None, map, get_or, drop};
-ghost use Rattle.fm_arena.specs.Pairs.{each_pair, flat_pairs as flat_pairs_of, held_list, paired};
-ghost use Rattle.fm_arena.specs.Trees.{apart as apart_of, apart_kind as apart_kind_of, built, formula_at, formula_in as formula_in_of};
-ghost use Rattle.fm_arena.specs.Trees.{nothing, thing_at, thing_in as thing_in_of};
+ghost use Rattle.std.specs.Prelude.{◌≡◌, ◌++◌, IfOk, OnOk, None, map, get_or, drop};
+ghost use Rattle.fm_arena.specs.Pairs.{PairsUp, each_pair, flat_pairs as flat_pairs_of, paired};
+ghost use Rattle.fm_arena.specs.Trees.{apart as apart_of, apart_kind as apart_kind_of, built, formula_at};
+ghost use Rattle.fm_arena.specs.Trees.{formula_in as formula_in_of, nothing, thing_at, thing_in as thing_in_of};
 ghost use Rattle.fm_base.specs.declared.formula.Formula as formula;
-ghost use Rattle.fm_arena.specs.declared.node.Tree.{Tree as TheTree};
 
 use crate::node::{Op, Tree};
 use fm_base::{Formula, Fterm, Memory, SortId};
@@ -91,7 +90,7 @@ fn pair_up(
     held: Option<Tree>,
     tree: Tree,
 ) -> Result<Option<Tree>, Memory>
-    ensures { (rest : List TheTree) → IfOk result (λ o. list.new.items ++ paired truth (held_list o ++ rest) ≡ list.old.items ++ paired truth (held_list held ++ tree ∷ rest)) }
+    ensures { PairsUp truth list.old.items held tree list.new.items result }
 {
     match held {
         None => Ok(Some(tree)),

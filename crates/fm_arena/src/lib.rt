@@ -4,8 +4,12 @@
 
 mod arena;
 mod building;
+mod forms;
+mod found;
+mod frames;
 mod laws;
 mod node;
+mod passes;
 #[cfg(test)]
 mod shown;
 mod sizes;

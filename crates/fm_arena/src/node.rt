@@ -1,3 +1,4 @@
+use crate::forms::Form;
 use crate::sizes::Measure;
 use fm_base::{Formula, Fterm, SortId, SymId, Ty};
 use sqlite_items::Items;
@@ -22,7 +23,8 @@ pub enum Op {
 
 /// A term over earlier ones, which stand by their numbers. `Name` is the name at a place in scope, a formula
 /// where `truth` is true. `Quant` is a block of quantifiers, around which `base` names are in scope: its
-/// variables are the names from there on.
+/// variables are the names from there on. `Defined` is an earlier term as the body of a definition, and `Use` is
+/// one where its parameters, the names from 0 on, stand for the arguments.
 #[derive(Drop)]
 pub enum Node {
     Name {
@@ -38,6 +40,15 @@ pub enum Node {
         vars: Items<SortId>,
         base: usize,
         body: usize,
+    },
+    Defined {
+        body: usize,
+        form: Form,
+    },
+    Use {
+        body: usize,
+        args: Items<usize>,
+        form: Form,
     },
 }
 

@@ -1,12 +1,13 @@
-ghost use Rattle.std.specs.Prelude.{◌≡◌, ◌+◌, ◌≤◌, ◌<◌, max, map, IfSome, is_some};
+ghost use Rattle.std.specs.Prelude.{◌≡◌, ◌+◌, ◌≤◌, ◌<◌, max, map, slice_get, IfSome, is_some};
 ghost use Rattle.fm_arena.specs.Measures.{all_pairs, deepest, is_fit, over, total, weigh};
-ghost use Rattle.fm_arena.specs.Kept.{are_fit_beside, kept_at, pairs_with};
+ghost use Rattle.fm_arena.specs.Kept.{are_fit_beside, entry_type, kept_at, pairs_with};
 
 use crate::node::{Entry, Op};
+use fm_base::Ty;
 
-const MOST_NODES: u64 = 1_000_000;
+pub(crate) const MOST_NODES: u64 = 1_000_000;
 
-const MOST_DEPTH: u64 = 400;
+pub(crate) const MOST_DEPTH: u64 = 400;
 
 /// The size of a tree, its number of nodes, and its depth, the number of nodes on the longest path.
 #[derive(Clone, Copy, Debug, PartialEq, Eq)]
@@ -22,6 +23,16 @@ pub(crate) fn kept(entries: &[Entry], number: usize) -> Measure
     match entries.get(number) {
         None => Measure { size: 1, depth: 1 },
         Some(entry) => entry.measure,
+    }
+}
+
+/// The type of a term, Bool where the number is none.
+pub(crate) fn type_of(entries: &[Entry], number: usize) -> Ty
+    ensures { result ≡ entry_type (slice_get entries.now number) }
+{
+    match entries.get(number) {
+        None => Ty::Bool,
+        Some(entry) => entry.ty,
     }
 }
 

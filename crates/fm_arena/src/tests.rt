@@ -7,13 +7,15 @@ use std::test::Fail;
 
 const U: Ty = Ty::Of(SortId(0));
 
-// What is added to an arena: a name at a place, what an operator makes, and a block of so many variables,
-// around which so many names are in scope, over a term.
-#[derive(Drop)]
+// What is added to an arena: a name at a place, what an operator makes, a block of so many variables, around
+// which so many names are in scope, over a term, a definition with so many parameters, and its use.
+#[derive(Clone, Copy)]
 pub(crate) enum Step {
     Name(usize, Ty),
     Make(Op, Ty, &'static [usize]),
     Block(bool, usize, usize, usize),
+    Define(usize, usize),
+    Use(usize, &'static [usize]),
 }
 
 // What an operator makes; None too where it doesn't take the parts.
@@ -42,6 +44,8 @@ pub(crate) fn put(arena: &mut Arena, alloc: Global, step: Step) -> Result<Option
             }
             arena.quantify(all, Items::from_vec(vars), base, body)
         }
+        Step::Define(body, params) => Ok(Some(arena.define(alloc, body, params)?)),
+        Step::Use(body, args) => arena.apply(alloc, body, Items::from_slice(alloc, args)?),
     }
 }
 
@@ -74,11 +78,11 @@ fn steps() -> [Step; 23] {
     ]
 }
 
-// The arena of these steps; None where one is refused.
-fn arena_of(alloc: Global) -> Result<Option<Arena>, Memory> {
+// The arena of some steps; None where one is refused.
+fn arena_of(alloc: Global, steps: &[Step]) -> Result<Option<Arena>, Memory> {
     let mut arena = Arena::new(alloc);
-    for step in steps() {
-        if put(&mut arena, alloc, step)?.is_none() {
+    for step in steps {
+        if put(&mut arena, alloc, *step)?.is_none() {
             return Ok(None);
         }
     }
@@ -87,7 +91,7 @@ fn arena_of(alloc: Global) -> Result<Option<Arena>, Memory> {
 
 #[test]
 fn makes_trees(rt: HostRuntime) -> Result<(), Fail> {
-    let Some(arena) = arena_of(rt.alloc())? else {
+    let Some(arena) = arena_of(rt.alloc(), &steps())? else {
         assert!(rt; false, "a step is refused");
         return Ok(());
     };
@@ -122,6 +126,84 @@ fn makes_trees(rt: HostRuntime) -> Result<(), Fail> {
             "the tree of {number}"
         );
     }
+    Ok(())
+}
+
+// The names x and y, and a Bool name at place 0 too, which stand for what definitions are used with.
+fn uses() -> [Step; 18] {
+    [
+        Step::Name(0, U),
+        Step::Name(1, U),
+        Step::Name(0, Ty::Bool),
+        Step::Make(Op::Equal, Ty::Bool, &[0, 1]),
+        Step::Block(true, 1, 1, 3),
+        Step::Define(4, 1),
+        Step::Use(5, &[0]),
+        Step::Block(true, 1, 0, 6),
+        Step::Make(Op::App(SymId(0)), U, &[0, 0]),
+        Step::Define(8, 1),
+        Step::Use(9, &[8]),
+        Step::Make(Op::Truth(false), Ty::Bool, &[]),
+        Step::Define(11, 1),
+        Step::Use(12, &[10]),
+        Step::Make(Op::Not, Ty::Bool, &[2]),
+        Step::Define(14, 1),
+        Step::Use(15, &[14]),
+        Step::Use(15, &[4]),
+    ]
+}
+
+#[test]
+fn makes_trees_of_uses(rt: HostRuntime) -> Result<(), Fail> {
+    let Some(arena) = arena_of(rt.alloc(), &uses())? else {
+        assert!(rt; false, "a step is refused");
+        return Ok(());
+    };
+    // In 7 the block of the definition doesn't capture the variable that it is used with.
+    let rows: [(usize, u64, u64, &[u8]); 5] = [
+        (7, 5, 4, b"A1A1=01"),
+        (10, 7, 3, b"f0f000;f000;;"),
+        (13, 1, 1, b"n"),
+        (16, 3, 3, b"!!t"),
+        (17, 5, 4, b"!A1=00"),
+    ];
+    for (number, size, depth, text) in rows {
+        assert_eq!(rt; arena.measure(number), Measure { size, depth });
+        assert_eq!(rt; shown(rt.alloc(), &arena, number)?.as_slice(), text);
+    }
+    Ok(())
+}
+
+// Definitions that each use the one before with what the first, which is its parameter, makes of theirs.
+fn chain(alloc: Global, arena: &mut Arena, times: usize) -> Result<Option<usize>, Memory> {
+    let name = arena.name(0, U)?;
+    let same = arena.define(alloc, name, 1)?;
+    let mut number = same;
+    for _ in 0..times {
+        let name = arena.name(0, U)?;
+        let Some(arg) = arena.apply(alloc, same, Items::from_slice(alloc, &[name])?)? else {
+            return Ok(None);
+        };
+        match arena.apply(alloc, number, Items::from_slice(alloc, &[arg])?)? {
+            None => return Ok(None),
+            Some(body) => number = arena.define(alloc, body, 1)?,
+        }
+    }
+    Ok(Some(number))
+}
+
+#[test]
+fn chains_definitions(rt: HostRuntime) -> Result<(), Fail> {
+    let mut arena = Arena::new(rt.alloc());
+    let Some(number) = chain(rt.alloc(), &mut arena, 3_000)? else {
+        assert!(rt; false, "a use is refused");
+        return Ok(());
+    };
+    assert_eq!(rt; arena.measure(number).size, 1);
+    assert_eq!(rt;
+        shown(rt.alloc(), &arena, number)?.as_slice(),
+        b"0".as_slice()
+    );
     Ok(())
 }
 

@@ -2,4 +2,4 @@ use Rattle.fm_arena.proofs.Closing.{formula_closed}
 use Rattle.fm_arena.proofs.arena.Arena.formula.Goals as goal
 
 pub returns : goal.returns
-returns c = formula_closed c.as_slice.result.now c.self.inside.entries.items c.args.self.now c.args.number c.in_ok-tree.tree c.formula_in.result c.as_slice.ensures.value c.self.view_is c.self.invariant c.requires c.in_ok-tree.ensures c.formula_in.ensures
+returns c = formula_closed c.as_slice.result.now c.self.inside.entries.items c.args.self.now c.args.number c.in_ok-tree.tree c.formula_in.result c.as_slice.ensures.value c.self.view_is c.self.invariant.0 c.requires c.in_ok-tree.ensures c.formula_in.ensures
