@@ -1,0 +1,82 @@
+-- What an e-graph holds between two calls, and what its calls make of it.
+use Rattle.std.specs.Prelude.{◌≡◌, ◌↔◌, ℕ, ◌==◌, Bool, true, false, if◌then◌else◌, List, [], ◌∷◌, ◌++◌, length, slice_get, Option, Some}
+use Rattle.std.specs.List.{All, list_any}
+use Rattle.fm_bank.specs.Closure.{AreApart, Follows, Shape, no as the_no, object, shape_at, yes as the_yes}
+use Rattle.fm_bank.specs.Terms.{Term}
+use Rattle.fm_bank.specs.declared.atom.Atom.{Atom}
+use Rattle.fm_base.specs.declared.ids.AtomId.{AtomId}
+use Rattle.fm_cong.specs.Facts.{pairs_of, unequal_of}
+use Rattle.fm_cong.specs.declared.fact.Fact.{Fact}
+
+-- the registered terms, the facts read, what had been read as each open level was opened, and how many of the registered
+-- terms are entered: those that came first
+pub record Held : Type 0 where
+  pub shapes : List Shape
+  pub facts : List Fact
+  pub levels : List (List Fact)
+  pub entered : ℕ
+
+abbrev pub nothing : Held
+nothing = record { shapes = []; facts = []; levels = []; entered = 0 }
+
+-- all registered terms are entered, so the classes are those of the closure
+abbrev pub IsSettled : Held → Type 0
+IsSettled g = g.entered ≡ length g.shapes
+
+-- the same, once all registered terms are entered
+abbrev pub all_entered : Held → Held
+all_entered g = record { shapes = g.shapes; facts = g.facts; levels = g.levels; entered = length g.shapes }
+
+-- once one more literal is read
+abbrev pub with_fact : Held → Fact → Held
+with_fact g f = record { shapes = g.shapes; facts = g.facts ++ f ∷ []; levels = g.levels; entered = g.entered }
+
+-- the literal on an atom of a bank is read
+abbrev pub ReadsLiteral : Held → Held → List Atom → AtomId → Bool → Type 0
+ReadsLiteral old new atoms atom positive =
+    (a : Atom) → slice_get atoms atom.0 ≡ Some a → new ≡ with_fact old (record { lit = record { atom = atom; positive = positive }; atom = a })
+
+-- the term of this number is registered
+abbrev pub is_registered : List Shape → ℕ → Bool
+is_registered shapes n = list_any (λ (s : Shape). n == s.number) shapes
+
+abbrev pub IsRegistered : List Shape → ℕ → Type 0
+IsRegistered shapes n = is_registered shapes n ≡ true
+
+-- the registered terms once a term of a bank is one of them
+abbrev pub with_term : List Shape → List Term → ℕ → List Shape
+with_term shapes terms n = if is_registered shapes n then shapes else shapes ++ shape_at n (slice_get terms n)
+
+-- a term of a bank is registered; where all terms were entered, this one is too
+pub record Registers (old new : Held) (terms : List Term) (n : ℕ) : Type 0 where
+  pub shapes : new.shapes ≡ with_term old.shapes terms n
+  pub facts : new.facts ≡ old.facts
+  pub levels : new.levels ≡ old.levels
+  pub settled : IsSettled old → IsSettled new
+
+-- the arguments of a term of a bank are registered
+abbrev pub HasArguments : List Shape → List Term → ℕ → Type 0
+HasArguments shapes terms n = (t : Term) → slice_get terms n ≡ Some t → All (IsRegistered shapes) t.args
+
+-- an equality or a predicate atom whose terms are registered
+abbrev pub JoinsRegistered : List Shape → Atom → Type 0
+JoinsRegistered shapes (Atom.Equal a b) = IsRegistered shapes a.0 × IsRegistered shapes b.0
+JoinsRegistered shapes (Atom.Pred t) = IsRegistered shapes t.0
+JoinsRegistered shapes (Atom.Card s k) = ⊥
+JoinsRegistered shapes (Atom.Bound n) = ⊥
+
+abbrev pub IsReadable : List Shape → List Atom → AtomId → Type 0
+IsReadable shapes atoms atom = (a : Atom) → slice_get atoms atom.0 ≡ Some a → JoinsRegistered shapes a
+
+-- two nodes are equal in the closure of the facts read over all registered terms
+abbrev pub AreEqual : Held → ℕ → ℕ → Type 0
+AreEqual g x y = Follows g.shapes (pairs_of g.facts) x y
+
+-- a false equality says that two terms are unequal
+abbrev pub AreUnequal : Held → ℕ → ℕ → Type 0
+AreUnequal g a b = AreApart g.shapes (pairs_of g.facts) (unequal_of g.facts) a b
+
+-- a predicate term is joined with yes, or with no and not with yes
+pub record IsTruth (g : Held) (n : ℕ) (truth : Option Bool) : Type 0 where
+  pub yes : (truth ≡ Some true) ↔ AreEqual g (object n) the_yes
+  pub no : (truth ≡ Some false) ↔ (AreEqual g (object n) the_no × (AreEqual g (object n) the_yes → ⊥))

@@ -1,0 +1,11 @@
+pub mod Clashes
+pub mod Explained
+pub mod Facts
+pub mod Faithful
+pub mod Graphs
+pub mod Growth
+pub mod Held
+pub mod Levels
+pub mod Paths
+pub mod States
+pub mod Tables

@@ -1,0 +1,235 @@
+ghost use Rattle.std.specs.Prelude.{◌≡◌, ◌<◌, ◌↔◌, List, IsTrue, length, false, true, IfNone, IfOk, IfSome, OnOk, OnErr};
+ghost use Rattle.fm_bank.specs.Closure.{object};
+ghost use Rattle.fm_cong.specs.Held.{AreEqual, AreUnequal, HasArguments, IsReadable, IsRegistered, IsSettled, IsTruth};
+ghost use Rattle.fm_cong.specs.Clashes.{HasNoClash, IsClash};
+ghost use Rattle.fm_cong.specs.Explained.{IsExplained};
+ghost use Rattle.fm_cong.specs.Held.{ReadsLiteral, Registers};
+ghost use Rattle.fm_cong.specs.Held.{all_entered, is_registered, nothing};
+ghost use Rattle.fm_cong.specs.declared.fact.Fact.{Fact as TheFact};
+
+use crate::additions::{make_room, put_member};
+use crate::clash::Clash;
+use crate::finding::clash_of;
+use crate::levels::{are_same, mark_of, settle, undo};
+use crate::literals::{fact_of, read_literal};
+use crate::mark::Mark;
+use crate::member::{Member, Uses};
+use crate::nodes::empty_state;
+use crate::queries::{is_apart, truth_of};
+use crate::registry::{has_flag, member_of};
+use crate::state::State;
+use fm_bank::Bank;
+use fm_base::{AtomId, Memory, TermId, Undo};
+use fm_cells::Edge;
+use std::alloc::Global;
+use std::marker::Model;
+
+/// Congruence closure over registered terms, with undo (Nelson and Oppen; Downey, Sethi and Tarjan; undo by a log as in
+/// Nieuwenhuis and Oliveras). It reads literals on equalities and on predicate terms. Registered terms stay when a level
+/// is undone, and the facts read since go. The bank handed in with a call holds each registered term as it was when it was
+/// registered, and the atom of each literal read as it was when it was read.
+#[derive(Drop)]
+pub struct Egraph {
+    alloc: Global,
+    members: Vec<Member>,
+    flags: Vec<bool>,
+    uses: Vec<Uses>,
+    state: State,
+    marks: Vec<Mark>,
+}
+
+impl Model for Egraph {
+    ghost use Rattle.fm_cong.specs.Held.{Held};
+
+    ghost Value = { Held };
+
+    ghost use Rattle.fm_cong.specs.Faithful.{IsFaithful, held_in};
+
+    ghost view = { held_in };
+
+    ghost invariant = { IsFaithful };
+}
+
+impl Egraph {
+    /// No registered terms, nothing read, and no open level.
+    pub fn new(alloc: Global) -> Result<Egraph, Memory>
+        ensures { IfOk result (λ g. g ≡ nothing) }
+    {
+        let state = empty_state(alloc)?;
+        Ok(Egraph {
+            alloc,
+            members: Vec::new(alloc),
+            flags: Vec::new(alloc),
+            uses: Vec::new(alloc),
+            state,
+            marks: Vec::new(alloc),
+        })
+    }
+
+    /// Registers a term of the bank whose arguments are registered; one that is registered already changes nothing. A
+    /// settled graph stays settled.
+    pub fn add_term(&mut self, bank: &Bank, term: TermId) -> Result<(), Memory>
+        requires term { term.0 < length bank.now.terms }
+        requires args { HasArguments self.old.shapes bank.now.terms term.0 }
+        ensures registered { OnOk result (Registers self.old self.new bank.now.terms term.0) }
+        ensures err { OnErr result (self.new ≡ self.old) }
+    {
+        if has_flag(self.flags.as_slice(), term.0) {
+            return Ok(());
+        }
+        let member = member_of(self.alloc, bank, term)?;
+        let place = self.members.len();
+        make_room(
+            self.alloc,
+            &mut self.state,
+            &mut self.flags,
+            &mut self.uses,
+            &member,
+            place,
+        )?;
+        put_member(
+            self.alloc,
+            &mut self.state,
+            &mut self.members,
+            self.uses.as_slice(),
+            member,
+        )?;
+        self.flags[term.0] = true;
+        Ok(())
+    }
+
+    /// Whether a term is registered.
+    pub fn is_registered(&self, term: TermId) -> bool
+        ensures { result ≡ is_registered self.now.shapes term.0 }
+    {
+        has_flag(self.flags.as_slice(), term.0)
+    }
+
+    /// Whether all registered terms are entered, so that no call waits for `settle`.
+    pub fn is_settled(&self) -> bool
+        ensures { IsTrue result ↔ IsSettled self.now }
+    {
+        self.state.entered == self.members.len()
+    }
+
+    /// Enters the terms that were registered late, and joins all that is congruent. Then two registered terms are of one
+    /// class exactly where they are equal in the closure of the facts read over all registered terms.
+    pub fn settle(&mut self, _bank: &Bank) -> Result<(), Memory>
+        ensures settled { OnOk result (self.new ≡ all_entered self.old) }
+        ensures err { OnErr result (self.new ≡ self.old) }
+    {
+        let members = self.members.as_slice();
+        settle(self.alloc, &mut self.state, members, self.uses.as_slice())?;
+        Ok(())
+    }
+
+    /// Reads a true literal on an equality or a predicate atom whose terms are registered. A settled graph stays settled.
+    pub fn merge(&mut self, bank: &Bank, atom: AtomId) -> Result<(), Memory>
+        requires atom { atom.0 < length bank.now.atoms }
+        requires registered { IsReadable self.old.shapes bank.now.atoms atom }
+        ensures read { OnOk result (ReadsLiteral self.old self.new bank.now.atoms atom true) }
+        ensures err { OnErr result (self.new ≡ self.old) }
+    {
+        let fact = fact_of(bank, atom, true);
+        let members = self.members.as_slice();
+        read_literal(
+            self.alloc,
+            &mut self.state,
+            members,
+            self.uses.as_slice(),
+            fact,
+        )?;
+        Ok(())
+    }
+
+    /// Reads a false literal on an equality or a predicate atom whose terms are registered. A false equality says that its
+    /// sides are unequal, and joins nothing; a false predicate term is joined with no. A settled graph stays settled.
+    pub fn unequal(&mut self, bank: &Bank, atom: AtomId) -> Result<(), Memory>
+        requires atom { atom.0 < length bank.now.atoms }
+        requires registered { IsReadable self.old.shapes bank.now.atoms atom }
+        ensures read { OnOk result (ReadsLiteral self.old self.new bank.now.atoms atom false) }
+        ensures err { OnErr result (self.new ≡ self.old) }
+    {
+        let fact = fact_of(bank, atom, false);
+        let members = self.members.as_slice();
+        read_literal(
+            self.alloc,
+            &mut self.state,
+            members,
+            self.uses.as_slice(),
+            fact,
+        )?;
+        Ok(())
+    }
+
+    /// Whether two registered terms of a settled graph are equal in the closure of the facts read over all registered
+    /// terms. It takes no memory.
+    pub fn same(&self, a: TermId, b: TermId) -> bool
+        requires settled { IsSettled self.now }
+        requires a { IsRegistered self.now.shapes a.0 }
+        requires b { IsRegistered self.now.shapes b.0 }
+        ensures { IsTrue result ↔ AreEqual self.now (object a.0) (object b.0) }
+    {
+        are_same(&self.state, self.members.as_slice(), a.0 + 2, b.0 + 2)
+    }
+
+    /// Whether a false equality read has a side that is equal to each of two registered terms of a settled graph. It takes
+    /// no memory.
+    pub fn apart(&self, a: TermId, b: TermId) -> bool
+        requires settled { IsSettled self.now }
+        requires a { IsRegistered self.now.shapes a.0 }
+        requires b { IsRegistered self.now.shapes b.0 }
+        ensures { IsTrue result ↔ AreUnequal self.now a.0 b.0 }
+    {
+        is_apart(&self.state, a.0 + 2, b.0 + 2)
+    }
+
+    /// A clash of the literals that a settled graph has read: None exactly where there is none. It takes no memory.
+    pub fn clash(&self) -> Option<Clash>
+        requires settled { IsSettled self.now }
+        ensures some { IfSome result (IsClash self.now) }
+        ensures none { IfNone result (HasNoClash self.now) }
+    {
+        clash_of(&self.state)
+    }
+
+    /// Whether a registered predicate term of a settled graph is true or false: true where the closure joins it with yes,
+    /// false where it joins it with no and not with yes. It takes no memory.
+    pub fn truth(&self, term: TermId) -> Option<bool>
+        requires settled { IsSettled self.now }
+        requires term { IsRegistered self.now.shapes term.0 }
+        ensures truth { IsTruth self.now term.0 result }
+    {
+        truth_of(&self.state, term.0 + 2)
+    }
+
+    /// The explanation forest of a settled graph: the link of each node, where 0 is yes, 1 is no and the term n is n + 2; a
+    /// node that has none is the end of its tree. It takes no memory.
+    pub fn links(&self) -> &[Option<Edge>]
+        requires settled { IsSettled self.now }
+        ensures explained { IsExplained self.now result.now }
+    {
+        self.state.links.cells.as_slice()
+    }
+}
+
+impl Undo for Egraph {
+    ghost Content = { List TheFact };
+
+    ghost content = { λ g. g.facts };
+
+    ghost levels = { λ g. g.levels };
+
+    fn mark(&mut self) -> Result<usize, Memory> {
+        let level = self.marks.len();
+        let mark = mark_of(&self.state);
+        self.marks.push(mark)?;
+        Ok(level)
+    }
+
+    fn undo_to(&mut self, level: usize) {
+        let mark = self.marks[level];
+        undo(&mut self.state, self.members.as_slice(), mark);
+        self.marks.truncate(level);
+    }
+}

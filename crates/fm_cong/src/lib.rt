@@ -1,0 +1,25 @@
+//! Congruence closure with undo and an explanation forest.
+#![tactic(auto)]
+
+mod additions;
+mod clash;
+mod egraph;
+mod fact;
+mod finding;
+mod join;
+mod key;
+mod levels;
+mod literals;
+mod mark;
+mod member;
+mod nodes;
+mod queries;
+mod registry;
+mod state;
+mod table;
+#[cfg(test)]
+mod tests;
+
+pub use clash::Clash;
+pub use egraph::Egraph;
+pub use fact::Fact;
