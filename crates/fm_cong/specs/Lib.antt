@@ -6,6 +6,7 @@ pub mod Graphs
 pub mod Growth
 pub mod Held
 pub mod Levels
+pub mod Links
 pub mod Paths
 pub mod States
 pub mod Tables

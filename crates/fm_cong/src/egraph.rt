@@ -3,6 +3,7 @@ ghost use Rattle.fm_bank.specs.Closure.{object};
 ghost use Rattle.fm_cong.specs.Held.{AreEqual, AreUnequal, HasArguments, IsReadable, IsRegistered, IsSettled, IsTruth};
 ghost use Rattle.fm_cong.specs.Clashes.{HasNoClash, IsClash};
 ghost use Rattle.fm_cong.specs.Explained.{IsExplained};
+ghost use Rattle.fm_cong.specs.Links.{IsKnownNode, IsLinkOf};
 ghost use Rattle.fm_cong.specs.Held.{ReadsLiteral, Registers};
 ghost use Rattle.fm_cong.specs.Held.{all_entered, is_registered, nothing};
 ghost use Rattle.fm_cong.specs.declared.fact.Fact.{Fact as TheFact};
@@ -11,6 +12,7 @@ use crate::additions::{make_room, put_member};
 use crate::clash::Clash;
 use crate::finding::clash_of;
 use crate::levels::{are_same, mark_of, settle, undo};
+use crate::link::{Link, Node, link_at};
 use crate::literals::{fact_of, read_literal};
 use crate::mark::Mark;
 use crate::member::{Member, Uses};
@@ -210,6 +212,16 @@ impl Egraph {
         ensures explained { IsExplained self.now result.now }
     {
         self.state.links.cells.as_slice()
+    }
+
+    /// The link of a node in the explanation forest of a settled graph, the one of `links`; None is the end of its tree. It
+    /// takes no memory.
+    pub fn link(&self, node: Node) -> Option<Link>
+        requires settled { IsSettled self.now }
+        requires node { IsKnownNode self.now node }
+        ensures link { IsLinkOf self.now node result }
+    {
+        link_at(&self.state, node)
     }
 }
 
