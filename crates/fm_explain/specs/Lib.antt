@@ -1,0 +1,4 @@
+pub mod Explanations
+pub mod Laws
+pub mod Meant
+pub mod Searches
