@@ -1,8 +1,12 @@
+pub mod Exchanging
+pub mod Following
 pub mod Hanging
 pub mod Heights
+pub mod Listing
 pub mod Logging
 pub mod Members
 pub mod Pending
+pub mod Placing
 pub mod Pushing
 pub mod Relabeling
 pub mod Splicing

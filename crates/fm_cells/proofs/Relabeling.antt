@@ -6,7 +6,8 @@ use Rattle.std.proofs.lemmas.Bool.Decides.{eqb_tells}
 use Rattle.std.proofs.lemmas.List.{get_or_past, take_more}
 use Rattle.std.proofs.lemmas.Option.{get_or_from_slice_get}
 use Rattle.fm_cells.specs.Members.{is_on}
-use Rattle.fm_cells.specs.Rings.{HasRing, IsChain, one_or, own_or, relabelled}
+use Rattle.fm_cells.specs.Rings.{HasRing, IsChain, alone, own_or, relabelled, root_or}
+use Rattle.fm_cells.specs.declared.rings.Root.{Root}
 use Rattle.fm_cells.proofs.Members.{on_cases, on_left, on_one, on_right, one_on}
 use Rattle.std.proofs.Math.Seq.{drop-cons}
 use Rattle.std.proofs.lemmas.Map.Steps.{length-le_from_distinct_below}
@@ -43,8 +44,11 @@ relabel_more old cells nodes i at to lt in' e h x =
 pub own_at : (cells : List ℕ) (i v : ℕ) → slice_get cells i ≡ Some v → own_or cells i ≡ v
 own_at cells i v h = get_or_from_slice_get cells i v i h
 
-pub one_at : (cells : List ℕ) (i v : ℕ) → slice_get cells i ≡ Some v → one_or cells i ≡ v
-one_at cells i v h = get_or_from_slice_get cells i v 1 h
+pub root_at : (cells : List Root) (i : ℕ) (v : Root) → slice_get cells i ≡ Some v → root_or cells i ≡ v
+root_at cells i v h = get_or_from_slice_get cells i v (alone i) h
+
+pub root_size : (cells : List Root) (i : ℕ) (v : Root) → slice_get cells i ≡ Some v → (root_or cells i).size ≡ v.size
+root_size cells i v h = ap (λ (z : Root). z.size) (root_at cells i v h)
 
 pub in_ring : (nodes : List ℕ) (i at : ℕ) → i < length nodes → at ≡ get_or nodes i 0 → is_on nodes at ≡ true
 in_ring [] i at lt e = absurd (omega (arith, lt))
@@ -52,7 +56,7 @@ in_ring (n ∷ nodes) zero at lt e = or_left (at == n) (is_on nodes at) (eq-eqb 
 in_ring (n ∷ nodes) (suc i) at lt e = or_right (at == n) (is_on nodes at) (in_ring nodes i at (omega (arith, lt)) e)
 
 -- the members of a ring are those of its class
-module _ (next class size : ℕ → ℕ) (from to : ℕ) (h : HasRing next class size from) where
+module _ (next class : ℕ → ℕ) (roots : ℕ → Root) (from to : ℕ) (h : HasRing next class roots from) where
   pub ring_of : IsChain next from (from ∷ h.others) from
   ring_of = h.ring
 
@@ -77,13 +81,13 @@ pub record IsTurn (nexts cells : List ℕ) (nodes : List ℕ) (i at end : ℕ) :
   pub onward : IsChain (own_or nexts) (own_or nexts at) (drop (i + 1) nodes) end
 
 -- each member of a ring in turn
-pub ring_turn : (nexts cells sizes : List ℕ) (from at i : ℕ) (h : HasRing (own_or nexts) (own_or cells) (one_or sizes) from) → from < length cells → i < length (from ∷ h.others) → IsChain (own_or nexts) at (drop i (from ∷ h.others)) from → IsTurn nexts cells (from ∷ h.others) i at from
+pub ring_turn : (nexts cells : List ℕ) (sizes : List Root) (from at i : ℕ) (h : HasRing (own_or nexts) (own_or cells) (root_or sizes) from) → from < length cells → i < length (from ∷ h.others) → IsChain (own_or nexts) at (drop i (from ∷ h.others)) from → IsTurn nexts cells (from ∷ h.others) i at from
 ring_turn nexts cells sizes from at i h lt in' chain =
     let r = ring_next (own_or nexts) at (from ∷ h.others) i from in' chain in
     record { at_is = r.0; below = member_below cells from at lt ((h.members at).0 (in_ring (from ∷ h.others) i at in' r.0)); onward = r.1 }
 
 -- a class isn't larger than there are cells
-pub size_fits : (nexts cells sizes : List ℕ) (r : ℕ) → HasRing (own_or nexts) (own_or cells) (one_or sizes) r → r < length cells → one_or sizes r ≤ length cells
+pub size_fits : (nexts cells : List ℕ) (sizes : List Root) (r : ℕ) → HasRing (own_or nexts) (own_or cells) (root_or sizes) r → r < length cells → (root_or sizes r).size ≤ length cells
 size_fits nexts cells sizes r h lt =
     let few = length-le_from_distinct_below (r ∷ h.others) (length cells) h.distinct (λ q on. member_below cells r q lt ((h.members q).0 on)) in
     omega (arith, few, h.size_is)

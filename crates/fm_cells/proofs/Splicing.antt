@@ -1,12 +1,13 @@
 -- Two rings become one where their first members change what is next.
-use Rattle.std.proofs.Common.{◌≡◌, ℕ, ◌+◌, ◌<◌, true, false, cond, ◌||◌, List, [], ◌∷◌, ◌++◌, length, inl, inr, refl, sym, subst, ap, ◌∙◌, arith, eqb, length-append, length-set, get_or-set_same, get_or-set_other}
-use Rattle.std.specs.Prelude.{◌==◌, slice_set}
+use Rattle.std.proofs.Common.{◌≡◌, ℕ, ◌+◌, ◌<◌, ◌≤◌, true, false, cond, ◌||◌, List, [], ◌∷◌, ◌++◌, length, inl, inr, refl, sym, subst, ap, ◌∙◌, arith, eqb, length-append, length-set, get_or-set_same, get_or-set_other}
+use Rattle.std.specs.Prelude.{◌==◌, min, slice_set}
 use Rattle.std.specs.List.{AllByRecursion, IsDistinct}
-use Rattle.std.proofs.lemmas.Bool.{eq-eqb, eqb-true, false≢true, false_from_ne_true, ne_eqb, or_cases, or_left, or_right}
+use Rattle.std.proofs.lemmas.Bool.{cases_lt, eq-eqb, eqb-true, false≢true, false_from_ne_true, ne_eqb, or_cases, or_left, or_right}
 use Rattle.std.proofs.lemmas.Bool.Decides.{eqb_tells}
 use Rattle.fm_cells.specs.Forest.{merged}
 use Rattle.fm_cells.specs.Members.{is_on}
-use Rattle.fm_cells.specs.Rings.{AreRings, HasRing, IsChain, changed, one_or, own_or, relabelled, swapped}
+use Rattle.fm_cells.specs.Rings.{AreRings, HasRing, IsChain, IsLeast, alone, both, changed, own_or, rank, relabelled, root_or, swapped}
+use Rattle.fm_cells.specs.declared.rings.Root.{Root}
 use Rattle.fm_cells.proofs.Members.{on_cases, on_left, on_right}
 use Rattle.fm_cells.proofs.Turning.{merged_cases}
 
@@ -44,7 +45,11 @@ off_from : (x : ℕ) (xs : List ℕ) → AllByRecursion (λ y. eqb x y ≡ false
 off_from x [] h = refl
 off_from x (y ∷ ys) h = ap (λ b. b || is_on ys x) h.0 ∙ off_from x ys h.1
 
-distinct_cons : (x : ℕ) (xs : List ℕ) → is_on xs x ≡ false → IsDistinct eqb xs → IsDistinct eqb (x ∷ xs)
+pub distinct_none : IsDistinct eqb []
+unfolding IsDistinct
+distinct_none = tt
+
+pub distinct_cons : (x : ℕ) (xs : List ℕ) → is_on xs x ≡ false → IsDistinct eqb xs → IsDistinct eqb (x ∷ xs)
 unfolding IsDistinct
 distinct_cons x xs h k = (by_recursion x xs h, k)
 
@@ -65,22 +70,22 @@ distinct_append (x ∷ xs) ys p q h =
     let parts = distinct_parts x xs p in
     distinct_cons x (xs ++ ys) (off_both xs ys x parts.0 (h x (or_left (x == x) (is_on xs x) (eq-eqb x x refl)))) (distinct_append xs ys parts.1 q (λ y k. h y (or_right (y == x) (is_on xs y) k)))
 
-changed_at : (f : ℕ → ℕ) (a v : ℕ) → changed f a v a ≡ v
+changed_at : {X : Type 0} → (f : ℕ → X) (a : ℕ) (v : X) → changed f a v a ≡ v
 changed_at f a v = ap (λ t. cond t v (f a)) (eq-eqb a a refl)
 
-changed_other : (f : ℕ → ℕ) (a v x : ℕ) → (x ≡ a → ⊥) → changed f a v x ≡ f x
+changed_other : {X : Type 0} → (f : ℕ → X) (a : ℕ) (v : X) (x : ℕ) → (x ≡ a → ⊥) → changed f a v x ≡ f x
 changed_other f a v x ne = ap (λ t. cond t v (f x)) (ne_eqb x a ne)
 
 -- the class of number a becomes part of that of number b
-module _ (next class size : ℕ → ℕ) (rings : AreRings next class size) (a b : ℕ) (root_a : class a ≡ a) (root_b : class b ≡ b) (ne : a ≡ b → ⊥) where
-  abbrev ring_a : HasRing next class size a
+module _ (next class : ℕ → ℕ) (roots : ℕ → Root) (rings : AreRings next class roots) (a b : ℕ) (root_a : class a ≡ a) (root_b : class b ≡ b) (ne : a ≡ b → ⊥) where
+  abbrev ring_a : HasRing next class roots a
   ring_a = rings.rings a root_a
 
-  abbrev ring_b : HasRing next class size b
+  abbrev ring_b : HasRing next class roots b
   ring_b = rings.rings b root_b
 
   -- a member of one class is in no other ring
-  off_ring : (r : ℕ) (h : HasRing next class size r) (x : ℕ) → (class x ≡ r → ⊥) → is_on (r ∷ h.others) x ≡ false
+  off_ring : (r : ℕ) (h : HasRing next class roots r) (x : ℕ) → (class x ≡ r → ⊥) → is_on (r ∷ h.others) x ≡ false
   off_ring r h x no_member = false_from_ne_true (is_on (r ∷ h.others) x) (λ on. no_member ((h.members x).0 on))
 
   abbrev spliced : List ℕ
@@ -155,17 +160,34 @@ module _ (next class size : ℕ → ℕ) (rings : AreRings next class size) (a b
         ]
       ]
 
-  joined_ring : HasRing (swapped next a b) (merged class a b) (changed size b (size a + size b)) b
+  joined_first : (x : ℕ) → merged class a b x ≡ b → min (roots a).least (roots b).least ≤ rank x
+  joined_first x h =
+      elim (merged_cases class a b x) [
+        | inl m ↦ let l = ring_a.least_is.first x (m.0 ∙ root_a) in omega (arith, l)
+        | inr m ↦ let l = ring_b.least_is.first x (sym m.1 ∙ h) in omega (arith, l)
+      ]
+
+  joined_least : IsLeast (merged class a b) b (min (roots a).least (roots b).least)
+  joined_least =
+      let l = ring_a.least_is in
+      let r = ring_b.least_is in
+      elim (cases_lt (roots a).least (roots b).least) [
+        | inl lt ↦ record { member = l.member; here = to_b l.member l.here; is = omega (arith, l.is, lt); first = joined_first }
+        | inr ge ↦ record { member = r.member; here = as_before r.member (λ e. ne (sym e ∙ r.here)) ∙ r.here; is = omega (arith, r.is, ge); first = joined_first }
+      ]
+
+  joined_ring : HasRing (swapped next a b) (merged class a b) (changed roots b (both (roots a) (roots b))) b
   joined_ring =
       record {
         others = spliced;
         ring = joined_chain;
         distinct = joined_distinct;
         members = λ y. (joined_into y, joined_from y);
-        size_is = omega (arith, length-append ring_a.others (a ∷ ring_b.others), ring_a.size_is, ring_b.size_is, changed_at size b (size a + size b));
+        size_is = omega (arith, length-append ring_a.others (a ∷ ring_b.others), ring_a.size_is, ring_b.size_is, ap (λ (z : Root). z.size) (changed_at roots b (both (roots a) (roots b))));
+        least_is = subst (λ (z : Root). IsLeast (merged class a b) b z.least) (sym (changed_at roots b (both (roots a) (roots b)))) joined_least;
       }
 
-  other_ring : (r : ℕ) → class r ≡ r → (r ≡ a → ⊥) → (r ≡ b → ⊥) → HasRing (swapped next a b) (merged class a b) (changed size b (size a + size b)) r
+  other_ring : (r : ℕ) → class r ≡ r → (r ≡ a → ⊥) → (r ≡ b → ⊥) → HasRing (swapped next a b) (merged class a b) (changed roots b (both (roots a) (roots b))) r
   other_ring r root p q =
       let h = rings.rings r root in
       record {
@@ -176,10 +198,16 @@ module _ (next class size : ℕ → ℕ) (rings : AreRings next class size) (a b
           (λ on. let c = (h.members y).0 on in as_before y (λ e. p (sym c ∙ e)) ∙ c),
           (λ m. elim (merged_cases class a b y) [ inl k ↦ absurd (q (sym m ∙ (k.1 ∙ root_b))) | inr k ↦ (h.members y).1 (sym k.1 ∙ m) ]),
         );
-        size_is = h.size_is ∙ sym (changed_other size b (size a + size b) r q);
+        size_is = h.size_is ∙ sym (ap (λ (z : Root). z.size) (changed_other roots b (both (roots a) (roots b)) r q));
+        least_is = subst (λ (z : Root). IsLeast (merged class a b) r z.least) (sym (changed_other roots b (both (roots a) (roots b)) r q)) (record {
+          member = h.least_is.member;
+          here = as_before h.least_is.member (λ e. p (sym h.least_is.here ∙ e)) ∙ h.least_is.here;
+          is = h.least_is.is;
+          first = λ x m. elim (merged_cases class a b x) [ inl k ↦ absurd (q (sym m ∙ (k.1 ∙ root_b))) | inr k ↦ h.least_is.first x (sym k.1 ∙ m) ];
+        });
       }
 
-  pub rings_joined : AreRings (swapped next a b) (merged class a b) (changed size b (size a + size b))
+  pub rings_joined : AreRings (swapped next a b) (merged class a b) (changed roots b (both (roots a) (roots b)))
   rings_joined =
       record {
         root = λ x. elim (merged_cases class a b x) [
@@ -187,7 +215,7 @@ module _ (next class size : ℕ → ℕ) (rings : AreRings next class size) (a b
           | inr m ↦ ap (merged class a b) m.1 ∙ (as_before (class x) (λ e. m.0 (sym (rings.root x) ∙ (e ∙ sym root_a))) ∙ (rings.root x ∙ sym m.1))
         ];
         rings = λ r root. elim (eqb_tells r b) [
-          | inl same ↦ subst (λ (z : ℕ). HasRing (swapped next a b) (merged class a b) (changed size b (size a + size b)) z) (sym same.1) joined_ring
+          | inl same ↦ subst (λ (z : ℕ). HasRing (swapped next a b) (merged class a b) (changed roots b (both (roots a) (roots b))) z) (sym same.1) joined_ring
           | inr other ↦ elim (merged_cases class a b r) [
             | inl m ↦ absurd (other.1 (sym root ∙ (m.1 ∙ root_b)))
             | inr m ↦ other_ring r (sym m.1 ∙ root) (λ e. m.0 (ap class e)) other.1
@@ -210,11 +238,11 @@ swapped_by_writes next a b after_a after_b la lb ne ea eb x =
       ]
     ]
 
-pub changed_by_write : (cells : List ℕ) (b v : ℕ) → b < length cells → (x : ℕ) → one_or (slice_set cells b v) x ≡ changed (one_or cells) b v x
+pub changed_by_write : (cells : List Root) (b : ℕ) (v : Root) → b < length cells → (x : ℕ) → root_or (slice_set cells b v) x ≡ changed (root_or cells) b v x
 changed_by_write cells b v lb x =
     elim (eqb_tells x b) [
-      | inl same ↦ ap (one_or (slice_set cells b v)) same.1 ∙ (get_or-set_same cells b v 1 lb ∙ (sym (changed_at (one_or cells) b v) ∙ ap (changed (one_or cells) b v) (sym same.1)))
-      | inr other ↦ get_or-set_other cells b x v 1 other.1 ∙ sym (changed_other (one_or cells) b v x other.1)
+      | inl same ↦ ap (root_or (slice_set cells b v)) same.1 ∙ (get_or-set_same cells b v (alone b) lb ∙ (sym (changed_at (root_or cells) b v) ∙ ap (changed (root_or cells) b v) (sym same.1)))
+      | inr other ↦ get_or-set_other cells b x v (alone x) other.1 ∙ sym (changed_other (root_or cells) b v x other.1)
     ]
 
 pub merged_by_labels : (class : ℕ → ℕ) (a b x : ℕ) → class a ≡ a → class b ≡ b → relabelled a b (class x) ≡ merged class a b x

@@ -1,16 +1,17 @@
 -- What is said of the three lists of cells that hold the classes together.
 use Rattle.std.specs.Prelude.{◌≡◌, ◌<◌, ◌++◌, ◌∷◌, [], length, vec_capacity, vec_len}
 use Rattle.fm_cells.specs.Logs.{HasLogged}
-use Rattle.fm_cells.specs.Rings.{AreRings, one_or, own_or}
+use Rattle.fm_cells.specs.Rings.{AreRings, alone, own_or, root_or}
 use Rattle.fm_cells.specs.declared.rings.Classes.{Classes}
 
 -- the members of each class are in a ring
 abbrev pub HasRings : Classes → Type 0
-HasRings c = AreRings (own_or c.next.cells.items) (own_or c.class.cells.items) (one_or c.size.cells.items)
+HasRings c = AreRings (own_or c.next.cells.items) (own_or c.class.cells.items) (root_or c.size.cells.items)
 
 -- and they stay so
 abbrev pub KeepsRings : Classes → Classes → Type 0
-KeepsRings old new = length old.next.cells.items ≡ length old.class.cells.items → HasRings old → HasRings new
+KeepsRings old new =
+    length old.next.cells.items ≡ length old.class.cells.items → length old.size.cells.items ≡ length old.class.cells.items → HasRings old → HasRings new
 
 -- what was written into each list is in its log
 abbrev pub LogsClass : Classes → Classes → Type 0
@@ -43,4 +44,4 @@ pub record HaveRoom (c : Classes) : Type 0 where
 pub record HasNode (old new : Classes) : Type 0 where
   pub class : new.class.cells.items ≡ old.class.cells.items ++ length old.class.cells.items ∷ []
   pub next : new.next.cells.items ≡ old.next.cells.items ++ length old.class.cells.items ∷ []
-  pub size : new.size.cells.items ≡ old.size.cells.items ++ 1 ∷ []
+  pub size : new.size.cells.items ≡ old.size.cells.items ++ alone (length old.class.cells.items) ∷ []

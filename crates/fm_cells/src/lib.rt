@@ -1,9 +1,11 @@
-//! Cells with undo: classes as rings of members, and a forest of links.
+//! Cells with undo: classes as rings of members, the first terms of classes, and a forest of links.
 #![tactic(auto)]
 
 mod cells;
 mod edge;
 mod forest;
+mod front;
+mod oldest;
 mod rings;
 #[cfg(test)]
 mod tests;
@@ -11,4 +13,6 @@ mod tests;
 pub use cells::Logged;
 pub use edge::{Cause, Edge};
 pub use forest::{depth, hang, link_of};
-pub use rings::Classes;
+pub use front::Front;
+pub use oldest::Oldest;
+pub use rings::{Classes, Root};

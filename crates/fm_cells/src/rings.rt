@@ -1,31 +1,66 @@
-ghost use Rattle.std.specs.Prelude.{◌≡◌, ◌<◌, [], length, OnOk};
+ghost use Rattle.std.specs.Prelude.{◌≡◌, ◌<◌, ◌+◌, ◌^◌, [], length, OnOk};
 ghost use Rattle.fm_cells.specs.Logs.{HasLogged};
-ghost use Rattle.fm_cells.specs.Rings.{AreMerged, AreRelabelled, HasRing, one_or, own_or};
+ghost use Rattle.fm_cells.specs.Rings.{AreMerged, AreRelabelled, HasRing, alone, both, is_least, own_or, rank, root_or};
 ghost use Rattle.fm_cells.specs.Unions.{AreSameCells, AreSameLogs, HasNode, HasRings, HaveRoom, KeepsRings, LogsClass, LogsNext, LogsSize};
 
 use crate::cells::Logged;
 use fm_base::Memory;
 use std::alloc::Global;
 
+/// What is kept of a class: how many members it has, and the least rank of them.
+#[derive(Clone, Copy)]
+pub struct Root {
+    pub size: usize,
+    pub least: usize,
+}
+
 /// Classes of nodes (union-find with rings): for each node the number of its class, which is one of its members, and the
-/// next member of its class, and by the number of a class how many members it has. So the class of a node is one read, and
-/// a union writes the cells of one of the two classes alone.
+/// next member of its class, and by the number of a class how many members it has and the least of them. So the class of a
+/// node is one read, and a union writes the cells of one of the two classes alone.
 #[derive(Drop)]
 pub struct Classes {
     pub class: Logged<usize>,
     pub next: Logged<usize>,
-    pub size: Logged<usize>,
+    pub size: Logged<Root>,
+}
+
+// The rank of a node: its number, but the nodes 0 and 1 come behind all others.
+fn rank(node: usize) -> usize
+    ensures { result ≡ rank node }
+{
+    if node < 2 { usize::MAX } else { node }
+}
+
+// A class of one node.
+fn alone(node: usize) -> Root
+    ensures { result ≡ alone node }
+{
+    Root {
+        size: 1,
+        least: rank(node),
+    }
+}
+
+// What is kept of the class that two classes become.
+fn both(a: Root, b: Root) -> Root
+    requires { a.size + b.size < 2 ^ 64 }
+    ensures { result ≡ both a b }
+{
+    Root {
+        size: a.size + b.size,
+        least: a.least.min(b.least),
+    }
 }
 
 // Gives the members of a class another number.
 fn relabel(
     class: &mut Logged<usize>,
     next: &Logged<usize>,
-    size: &Logged<usize>,
+    size: &Logged<Root>,
     from: usize,
     to: usize,
 ) -> Result<(), Memory>
-    requires ring { HasRing (own_or next.now.cells.items) (own_or class.old.cells.items) (one_or size.now.cells.items) from }
+    requires ring { HasRing (own_or next.now.cells.items) (own_or class.old.cells.items) (root_or size.now.cells.items) from }
     requires from { from < length class.old.cells.items }
     requires nexts { length next.now.cells.items ≡ length class.old.cells.items }
     requires sizes { length size.now.cells.items ≡ length class.old.cells.items }
@@ -34,7 +69,8 @@ fn relabel(
     ensures logged { HasLogged class.old.log.items class.old.cells.items class.new.log.items class.new.cells.items }
 {
     let mut at = from;
-    for _i in 0..size.get(from) {
+    let root = size.get(from);
+    for _i in 0..root.size {
         class.set(at, to)?;
         at = next.get(at);
     }
@@ -81,7 +117,7 @@ impl Classes {
         let node = self.class.len();
         self.class.push_within(node);
         self.next.push_within(node);
-        self.size.push_within(1);
+        self.size.push_within(alone(node));
     }
 
     /// Makes one class of two, whose number is the second. It writes the cells of the members of the first, so a caller
@@ -106,8 +142,18 @@ impl Classes {
         let after_b = self.next.get(b);
         self.next.set(a, after_b)?;
         self.next.set(b, after_a)?;
-        let both = self.size.get(a) + self.size.get(b);
-        self.size.set(b, both)?;
+        let root = both(self.size.get(a), self.size.get(b));
+        self.size.set(b, root)?;
         Ok(())
+    }
+
+    /// Whether a node is the first of its class by its number; the nodes 0 and 1 come behind all others.
+    pub fn is_least(&self, node: usize) -> bool
+        requires node { node < length self.now.class.cells.items }
+        requires root { own_or self.now.class.cells.items node < length self.now.size.cells.items }
+        ensures { result ≡ is_least (own_or self.now.class.cells.items) (root_or self.now.size.cells.items) node }
+    {
+        let root = self.size.get(self.class.get(node));
+        root.least == rank(node)
     }
 }

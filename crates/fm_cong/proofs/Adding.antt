@@ -111,8 +111,8 @@ faithful_room g h f members marks k same more =
     }
 
 -- what is held then is as before
-pub held_room : (g h : Inside) → h.members.items ≡ g.members.items → h.marks.items ≡ g.marks.items → h.state.facts.items ≡ g.state.facts.items → h.state.entered ≡ g.state.entered → held_in h ≡ held_in g
-held_room g h members marks facts entered = λ i. record { shapes = members i; facts = facts i; levels = levels_of (facts i) (marks i); entered = entered i }
+pub held_room : (g h : Inside) → h.members.items ≡ g.members.items → h.types.items ≡ g.types.items → h.marks.items ≡ g.marks.items → h.state.facts.items ≡ g.state.facts.items → h.state.entered ≡ g.state.entered → held_in h ≡ held_in g
+held_room g h members types marks facts entered = λ i. record { shapes = members i; types = types i; facts = facts i; levels = levels_of (facts i) (marks i); entered = entered i }
 
 -- and once the term is registered, with its flag set
 pub faithful_added : (g h : Inside) (s : Shape) → IsFaithful g → h.members.items ≡ g.members.items ++ s ∷ [] → h.marks.items ≡ g.marks.items → IsSteady h.members.items (cells_of h.state) → h.state.waiting.items ≡ [] → h.state.entered ≤ length h.members.items → KeepsMarks g.state h.state → count_of h.state ≡ count_of g.state → h.state.facts.items ≡ g.state.facts.items → IsKnown (count_of g.state) s → AreUses (g.members.items ++ s ∷ []) h.uses.items → s.number < length g.flags.items → h.flags.items ≡ slice_set g.flags.items s.number true → IsFaithful h

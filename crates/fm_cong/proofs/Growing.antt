@@ -8,12 +8,13 @@ use Rattle.std.proofs.lemmas.List.Elements.{All-head, All-tail, All-weaker}
 use Rattle.fm_bank.specs.Closure.{Follows, Shape}
 use Rattle.fm_cells.specs.Forest.{link_of}
 use Rattle.fm_cells.specs.Logs.{restored}
-use Rattle.fm_cells.specs.Rings.{AreRings, one_or, own_or}
+use Rattle.fm_cells.specs.Rings.{AreRings, alone, own_or, root_or}
 use Rattle.fm_cells.specs.declared.edge.Edge.{Edge}
+use Rattle.fm_cells.specs.declared.rings.Root.{Root}
 use Rattle.fm_cong.specs.Graphs.{Cells, IsWorking, pairs_of}
 use Rattle.fm_cong.specs.Paths.{IsForest}
 use Rattle.fm_cong.specs.Tables.{IsEntering, IsKnown, IsTable, find_in}
-use Rattle.fm_cells.proofs.Pushing.{link_push, one_push, own_push}
+use Rattle.fm_cells.proofs.Pushing.{link_push, own_push, root_push}
 use Rattle.fm_cong.proofs.Merging.{restored_length}
 use Rattle.std.proofs.Common.{take}
 
@@ -31,18 +32,18 @@ restored_push {X} (e ∷ log) cells v all =
     ap (λ xs. slice_set xs e.0 e.1) (restored_push log cells v (All-tail P e log all)) ∙ set_push (restored log cells) v e.0 e.1 (omega (arith, head, restored_length log cells))
 
 abbrev pub with_node : Cells → Cells
-with_node c = record { class = c.class ++ length c.class ∷ []; next = c.next ++ length c.class ∷ []; size = c.size ++ 1 ∷ []; links = c.links ++ None ∷ []; entries = c.entries; facts = c.facts; entered = c.entered; time = c.time }
+with_node c = record { class = c.class ++ length c.class ∷ []; next = c.next ++ length c.class ∷ []; size = c.size ++ alone (length c.class) ∷ []; links = c.links ++ None ∷ []; entries = c.entries; facts = c.facts; entered = c.entered; time = c.time }
 
 pub working_node : (shapes : List Shape) (c : Cells) (waiting : List (ℕ × ℕ)) → IsWorking shapes c waiting → IsWorking shapes (with_node c) waiting
 working_node shapes c waiting w =
     let n = length c.class in
     let class = sym (own_push c.class n refl) in
     let next = sym (own_push c.next n (sym w.nexts)) in
-    let size = sym (one_push c.size) in
+    let size = sym (root_push c.size n (sym w.sizes)) in
     let link = sym (link_push c.links) in
     let lc = length_push c.class n in
     let ln = length_push c.next n in
-    let ls = length_push c.size 1 in
+    let ls = length_push c.size (alone n) in
     let ll = length_push c.links None in
     let long : (s : Shape) → IsKnown (length c.class) s → IsKnown (length (c.class ++ length c.class ∷ [])) s = λ s k. record { node = omega (arith, k.node, lc); args = λ j d lt. let b = k.args j d lt in omega (arith, b, lc) } in
     record {
@@ -54,7 +55,7 @@ working_node shapes c waiting w =
         | inl l ↦ let b = w.below x l in omega (arith, b, lc)
         | inr past ↦ let own : own_or c.class x ≡ x = get_or_past c.class x x past in omega (arith, own, lt)
       ]);
-      rings = subst (λ (f : ℕ → ℕ). AreRings f (own_or (c.class ++ length c.class ∷ [])) (one_or (c.size ++ 1 ∷ []))) next (subst (λ (f : ℕ → ℕ). AreRings (own_or c.next) f (one_or (c.size ++ 1 ∷ []))) class (subst (λ (f : ℕ → ℕ). AreRings (own_or c.next) (own_or c.class) f) size w.rings));
+      rings = subst (λ (f : ℕ → ℕ). AreRings f (own_or (c.class ++ length c.class ∷ [])) (root_or (c.size ++ alone n ∷ []))) next (subst (λ (f : ℕ → ℕ). AreRings (own_or c.next) f (root_or (c.size ++ alone n ∷ []))) class (subst (λ (f : ℕ → Root). AreRings (own_or c.next) (own_or c.class) f) size w.rings));
       sound = λ x. subst (λ (f : ℕ → ℕ). Follows shapes (pairs_of c.facts) x (f x)) class (w.sound x);
       forest = subst (λ (g : ℕ → Option Edge). IsForest shapes c.facts g (own_or (c.class ++ length c.class ∷ [])) c.time) link (subst (λ (f : ℕ → ℕ). IsForest shapes c.facts (link_of c.links) f c.time) class w.forest);
       within = λ e l h. let b = w.within e l (subst (λ (g : ℕ → Option Edge). g e ≡ Some l) (sym link) h) in omega (arith, b, ll);

@@ -6,7 +6,7 @@ use Rattle.fm_bank.specs.Closure.{Shape}
 use Rattle.fm_bank.specs.declared.atom.Atom.{Atom}
 use Rattle.fm_base.specs.declared.ids.AtomId.{AtomId}
 use Rattle.fm_cong.specs.Facts.{AreAtomsBelow, IsAtomBelow}
-use Rattle.fm_cong.specs.Faithful.{IsFaithful, held_in}
+use Rattle.fm_cong.specs.Faithful.{IsFaithful, IsSound, held_in}
 use Rattle.fm_cong.specs.Graphs.{cells_of}
 use Rattle.fm_cong.specs.Held.{Held, IsReadable, IsRegistered, with_fact}
 use Rattle.fm_cong.specs.Levels.{IsComplete, IsSteady, KeepsMarks, levels_of}
@@ -34,7 +34,7 @@ atoms_more m n facts more le p h = subst (AreAtomsBelow n) (sym p) (All-weaker (
 
 module _ (g : Inside) (f : IsFaithful g) where
   -- a state in its place that keeps each mark
-  pub faithful_with : (t : State) (shapes : List Shape) → shapes ≡ g.members.items → IsSteady shapes (cells_of t) → t.waiting.items ≡ [] → t.entered ≤ length g.members.items → KeepsMarks g.state t → count_of t ≡ count_of g.state → AreAtomsBelow (count_of t) t.facts.items → IsFaithful (record { alloc = g.alloc; members = g.members; flags = g.flags; uses = g.uses; state = t; marks = g.marks })
+  pub faithful_with : (t : State) (shapes : List Shape) → shapes ≡ g.members.items → IsSteady shapes (cells_of t) → t.waiting.items ≡ [] → t.entered ≤ length g.members.items → KeepsMarks g.state t → count_of t ≡ count_of g.state → AreAtomsBelow (count_of t) t.facts.items → IsSound g.members.items g.uses.items g.flags.items t g.marks.items
   faithful_with t shapes e steady quiet entered keeps nodes atoms =
       record {
         steady = subst (λ (ss : List Shape). IsSteady ss (cells_of t)) e steady;
@@ -63,11 +63,14 @@ module _ (g : Inside) (f : IsFaithful g) where
     pub complete_in : h.entered ≡ length h.shapes → IsComplete g.members.items (cells_of g.state)
     complete_in e = record { steady = f.steady; all = subst (λ (k : Held). k.entered ≡ length k.shapes) (sym view) e }
 
+    abbrev held_with : State → Held
+    held_with t = record { shapes = g.members.items; types = g.types.items; facts = t.facts.items; levels = levels_of t.facts.items g.marks.items; entered = t.entered }
+
     -- a literal more is read
-    pub read_held : (t : State) (atom : AtomId) (positive : Bool) (a : Atom) (fact : Fact) → t.facts.items ≡ g.state.facts.items ++ fact ∷ [] → t.entered ≡ g.state.entered → fact.lit ≡ record { atom = atom; positive = positive } → fact.atom ≡ a → held_in (record { alloc = g.alloc; members = g.members; flags = g.flags; uses = g.uses; state = t; marks = g.marks }) ≡ with_fact h (record { lit = record { atom = atom; positive = positive }; atom = a })
+    pub read_held : (t : State) (atom : AtomId) (positive : Bool) (a : Atom) (fact : Fact) → t.facts.items ≡ g.state.facts.items ++ fact ∷ [] → t.entered ≡ g.state.entered → fact.lit ≡ record { atom = atom; positive = positive } → fact.atom ≡ a → held_with t ≡ with_fact h (record { lit = record { atom = atom; positive = positive }; atom = a })
     read_held t atom positive a fact facts entered lit is_a =
         let new : Fact = record { lit = record { atom = atom; positive = positive }; atom = a } in
         let read : t.facts.items ≡ g.state.facts.items ++ new ∷ [] = facts ∙ (λ i. g.state.facts.items ++ (record { lit = lit i; atom = is_a i }) ∷ []) in
         let levels : levels_of t.facts.items g.marks.items ≡ levels_of g.state.facts.items g.marks.items = ap (λ (fs : List Fact). levels_of fs g.marks.items) read ∙ levels_grown g.members.items g.state (new ∷ []) g.marks.items f.marks.kept in
-        let made : held_in (record { alloc = g.alloc; members = g.members; flags = g.flags; uses = g.uses; state = t; marks = g.marks }) ≡ with_fact (held_in g) new = λ i. record { shapes = g.members.items; facts = read i; levels = levels i; entered = entered i } in
+        let made : held_with t ≡ with_fact (held_in g) new = λ i. record { shapes = g.members.items; types = g.types.items; facts = read i; levels = levels i; entered = entered i } in
         made ∙ ap (λ (k : Held). with_fact k new) view

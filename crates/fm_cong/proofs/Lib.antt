@@ -1,5 +1,6 @@
 pub mod Adding
 pub mod Asking
+pub mod Choosing
 pub mod Clashing
 pub mod Entering
 pub mod Explaining
@@ -17,5 +18,7 @@ pub mod Registering
 pub mod Running
 pub mod Stacking
 pub mod Tabled
+pub mod Tracking
 pub mod Walks
+pub mod Whole
 pub mod Widening

@@ -8,7 +8,7 @@ use Rattle.fm_bank.specs.Closure.{Follows, Shape, object}
 use Rattle.fm_bank.specs.Terms.{Term}
 use Rattle.fm_cells.specs.Forest.{AreInOneTree, AreTrees, AreWithin, HasOneMore, link_of, merged}
 use Rattle.fm_cells.specs.Logs.{HasLogged, restored}
-use Rattle.fm_cells.specs.Rings.{AreRings, one_or, own_or, relabelled}
+use Rattle.fm_cells.specs.Rings.{AreRings, own_or, relabelled, root_or}
 use Rattle.fm_cells.specs.declared.edge.Cause.{Cause}
 use Rattle.fm_cells.specs.declared.edge.Edge.{Edge}
 use Rattle.fm_cells.proofs.Splicing.{merged_by_labels}
@@ -155,7 +155,7 @@ module _ (shapes : List Shape) (c : Cells) (waiting : List (ℕ × ℕ)) (w : Is
 
   -- all that a merge leaves
   pub working_merged : (uses : List (List ℕ)) (d : Cells) (waiting' : List (ℕ × ℕ)) (cause : Cause) → node < length c.class → to < length c.class → AreUses shapes uses → Follows shapes (pairs_of c.facts) node to → IsJustified shapes c.facts (link_of c.links) cause c.time node to
-      → length d.class ≡ length c.class → length d.next ≡ length c.next → length d.size ≡ length c.size → length d.links ≡ length c.links → ((x : ℕ) → own_or d.class x ≡ merged (own_or c.class) from onto x) → AreRings (own_or d.next) (own_or d.class) (one_or d.size)
+      → length d.class ≡ length c.class → length d.next ≡ length c.next → length d.size ≡ length c.size → length d.links ≡ length c.links → ((x : ℕ) → own_or d.class x ≡ merged (own_or c.class) from onto x) → AreRings (own_or d.next) (own_or d.class) (root_or d.size)
       → AreTrees (link_of d.links) (merged (own_or c.class) node to) → HasOneMore (link_of c.links) (link_of d.links) node (record { to = to; cause = cause; time = c.time }) → AreWithin d.links → c.time < d.time
       → HasGrown c.entries d.entries → HasGrown waiting waiting' → ((x : ℕ) → own_or c.class x ≡ from → All (IsAgain shapes (moved from onto c.class) d.entries waiting') (uses_at uses x)) → IsEntering shapes (moved from onto c.class) d.entries waiting' → d.facts ≡ c.facts → d.entered ≡ c.entered → IsWorking shapes d waiting'
   working_merged uses d waiting' cause ln lt are follows j lc lne ls ll classes rings trees more within later ge gw again entering fs en =

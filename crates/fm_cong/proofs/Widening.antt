@@ -5,9 +5,10 @@ use Rattle.std.proofs.lemmas.List.Elements.{All-drop}
 use Rattle.std.proofs.lemmas.List.{length_push}
 use Rattle.fm_bank.specs.Closure.{Shape}
 use Rattle.fm_cells.specs.Logs.{AreOfCells, restored}
+use Rattle.fm_cells.specs.Rings.{alone, own_or, root_or}
 use Rattle.fm_cells.specs.Unions.{AreSameCells, AreSameLogs, HasNode}
 use Rattle.fm_cells.specs.declared.rings.Classes.{Classes}
-use Rattle.fm_cells.proofs.Pushing.{own_push}
+use Rattle.fm_cells.proofs.Pushing.{own_push, root_push}
 use Rattle.fm_cong.specs.Graphs.{Cells, cells_of, pairs_of}
 use Rattle.fm_cong.specs.Levels.{IsInside, IsSteady, KeepsAll, cells_at}
 use Rattle.fm_cong.specs.declared.mark.Mark.{Mark}
@@ -63,6 +64,7 @@ module _ (s t : State) (logs : AreSameLogs s.classes t.classes) (links_log : t.l
       facts = facts;
       entered = entered;
       nodes = omega (arith, ap length same.class);
+      roots = λ shapes h. record { class = ap own_or same.class; root = ap root_or same.size };
     }
 
   module _ (node : HasNode s.classes t.classes) (links : t.links.cells.items ≡ s.links.cells.items ++ None ∷ []) where
@@ -76,7 +78,7 @@ module _ (s t : State) (logs : AreSameLogs s.classes t.classes) (links_log : t.l
         let long : n ≡ length (restored (drop m.class c.class.log.items) c.class.cells.items) = sym (restored_length (drop m.class c.class.log.items) c.class.cells.items) in
         let class = pushed_back c.class.log.items t.classes.class.log.items c.class.cells.items t.classes.class.cells.items n (length (cells_at s m).class) m.class logs.class node.class long c.class.places in
         let next = pushed_back c.next.log.items t.classes.next.log.items c.next.cells.items t.classes.next.cells.items n (length (cells_at s m).class) m.next logs.next node.next long c.next.places in
-        let size = pushed_back c.size.log.items t.classes.size.log.items c.size.cells.items t.classes.size.cells.items 1 1 m.size logs.size node.size refl c.size.places in
+        let size = pushed_back c.size.log.items t.classes.size.log.items c.size.cells.items t.classes.size.cells.items (alone n) (alone (length (cells_at s m).class)) m.size logs.size node.size (ap alone long) c.size.places in
         let link = pushed_back s.links.log.items t.links.log.items s.links.cells.items t.links.cells.items None None m.links links_log links refl s.links.places in
         λ i. record { class = class i; next = next i; size = size i; links = link i; entries = take m.table (entries i); facts = take m.facts (facts i); entered = m.entered; time = m.links }
 
@@ -88,10 +90,14 @@ module _ (s t : State) (logs : AreSameLogs s.classes t.classes) (links_log : t.l
       facts = facts;
       entered = entered;
       nodes = omega (arith, ap length node.class, length_push s.classes.class.cells.items (length s.classes.class.cells.items));
+      roots = λ shapes h. record {
+        class = ap own_or node.class ∙ own_push s.classes.class.cells.items (length s.classes.class.cells.items) refl;
+        root = ap root_or node.size ∙ root_push s.classes.size.cells.items (length s.classes.class.cells.items) (sym h.working.sizes);
+      };
     }
 
 pub keeps_none : (s : State) → KeepsAll s s
-keeps_none s = record { steady = λ shapes h. h; marks = λ shapes m k. k; quiet = refl; facts = refl; entered = refl; nodes = omega arith }
+keeps_none s = record { steady = λ shapes h. h; marks = λ shapes m k. k; quiet = refl; facts = refl; entered = refl; nodes = omega arith; roots = λ shapes h. record { class = refl; root = refl } }
 
 pub keeps_more : (a b c : State) → KeepsAll a b → KeepsAll b c → KeepsAll a c
 keeps_more a b c p q = record {
@@ -101,6 +107,10 @@ keeps_more a b c p q = record {
   facts = q.facts ∙ p.facts;
   entered = q.entered ∙ p.entered;
   nodes = omega (arith, p.nodes, q.nodes);
+  roots = λ shapes h.
+      let first = p.roots shapes h in
+      let second = q.roots shapes (p.steady shapes h) in
+      record { class = second.class ∙ first.class; root = second.root ∙ first.root };
 }
 
 -- what is said of classes once room was made
@@ -108,7 +118,7 @@ pub node_from : (a b c : Classes) → AreSameCells a b → HasNode b c → HasNo
 node_from a b c e h = record {
   class = h.class ∙ (λ i. e.class i ++ length (e.class i) ∷ []);
   next = h.next ∙ (λ i. e.next i ++ length (e.class i) ∷ []);
-  size = h.size ∙ (λ i. e.size i ++ 1 ∷ []);
+  size = h.size ∙ (λ i. e.size i ++ alone (length (e.class i)) ∷ []);
 }
 
 pub logs_from : (a b c : Classes) → AreSameLogs a b → AreSameLogs b c → AreSameLogs a c

@@ -1,6 +1,7 @@
 -- What the literals read say of nodes: yes, no and the terms.
 use Rattle.std.specs.Prelude.{ℕ, ◌<◌, ◌==◌, ◌&&◌, ◌||◌, Bool, true, false, if◌then◌else◌, List, Option, Some, None}
 use Rattle.std.specs.List.{All, filter_map, list_any}
+use Rattle.fm_base.specs.declared.ids.TermId.{TermId}
 use Rattle.fm_bank.specs.Closure.{no, object, yes}
 use Rattle.fm_bank.specs.declared.atom.Atom.{Atom}
 use Rattle.fm_cells.specs.Rings.{own_or}
@@ -45,6 +46,10 @@ unequal_by f = unequal_sides f.atom f.lit.positive
 -- the pairs of terms that the facts say are unequal
 abbrev pub unequal_of : List Fact → List (ℕ × ℕ)
 unequal_of facts = filter_map unequal_by facts
+
+-- two terms by their numbers
+abbrev pub numbers_of_pair : TermId × TermId → ℕ × ℕ
+numbers_of_pair p = (p.0.0, p.1.0)
 
 -- By the classes of nodes: whether a pair of unequal terms has one side in the class of each of two nodes.
 abbrev pub is_between : (ℕ → ℕ) → ℕ → ℕ → ℕ × ℕ → Bool

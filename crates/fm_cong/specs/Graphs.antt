@@ -5,8 +5,9 @@ use Rattle.fm_bank.specs.Closure.{Follows, Shape}
 use Rattle.fm_bank.specs.Terms.{Term}
 use Rattle.fm_cells.specs.Forest.{AreWithin, link_of}
 use Rattle.fm_cells.specs.Logs.{HasLogged}
-use Rattle.fm_cells.specs.Rings.{AreRings, one_or, own_or}
+use Rattle.fm_cells.specs.Rings.{AreRings, own_or, root_or}
 use Rattle.fm_cells.specs.declared.edge.Edge.{Edge}
+use Rattle.fm_cells.specs.declared.rings.Root.{Root}
 pub use Rattle.fm_cong.specs.Facts.{pairs_of}
 use Rattle.fm_cong.specs.Paths.{IsForest}
 use Rattle.fm_cong.specs.Tables.{HasGrown, IsEntering, IsKnown, IsTable, find_in}
@@ -17,7 +18,7 @@ use Rattle.fm_cong.specs.declared.state.State.{State}
 pub record Cells : Type 0 where
   pub class : List ℕ
   pub next : List ℕ
-  pub size : List ℕ
+  pub size : List Root
   pub links : List (Option Edge)
   pub entries : List (Term × ℕ)
   pub facts : List Fact
@@ -35,7 +36,7 @@ pub record IsWorking (shapes : List Shape) (c : Cells) (waiting : List (ℕ × �
   pub linked : length c.links ≡ length c.class
   pub known : All (IsKnown (length c.class)) shapes
   pub below : (x : ℕ) → x < length c.class → own_or c.class x < length c.class
-  pub rings : AreRings (own_or c.next) (own_or c.class) (one_or c.size)
+  pub rings : AreRings (own_or c.next) (own_or c.class) (root_or c.size)
   pub sound : (x : ℕ) → Follows shapes (pairs_of c.facts) x (own_or c.class x)
   pub forest : IsForest shapes c.facts (link_of c.links) (own_or c.class) c.time
   pub within : AreWithin c.links

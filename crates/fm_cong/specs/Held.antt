@@ -1,23 +1,26 @@
 -- What an e-graph holds between two calls, and what its calls make of it.
-use Rattle.std.specs.Prelude.{◌≡◌, ◌↔◌, ℕ, ◌==◌, Bool, true, false, if◌then◌else◌, List, [], ◌∷◌, ◌++◌, length, slice_get, Option, Some}
+use Rattle.std.specs.Prelude.{◌≡◌, ◌↔◌, ℕ, ◌==◌, Bool, true, false, if◌then◌else◌, List, [], ◌∷◌, ◌++◌, length, slice_get, Option, None, Some}
 use Rattle.std.specs.List.{All, list_any}
 use Rattle.fm_bank.specs.Closure.{AreApart, Follows, Shape, no as the_no, object, shape_at, yes as the_yes}
 use Rattle.fm_bank.specs.Terms.{Term}
 use Rattle.fm_bank.specs.declared.atom.Atom.{Atom}
 use Rattle.fm_base.specs.declared.ids.AtomId.{AtomId}
+use Rattle.fm_base.specs.declared.ids.TermId.{TermId}
+use Rattle.fm_base.specs.declared.signature.Ty.{Ty}
 use Rattle.fm_cong.specs.Facts.{pairs_of, unequal_of}
 use Rattle.fm_cong.specs.declared.fact.Fact.{Fact}
 
--- the registered terms, the facts read, what had been read as each open level was opened, and how many of the registered
--- terms are entered: those that came first
+-- the registered terms and their types, the facts read, what had been read as each open level was opened, and how many of
+-- the registered terms are entered: those that came first
 pub record Held : Type 0 where
   pub shapes : List Shape
+  pub types : List (TermId × Ty)
   pub facts : List Fact
   pub levels : List (List Fact)
   pub entered : ℕ
 
 abbrev pub nothing : Held
-nothing = record { shapes = []; facts = []; levels = []; entered = 0 }
+nothing = record { shapes = []; types = []; facts = []; levels = []; entered = 0 }
 
 -- all registered terms are entered, so the classes are those of the closure
 abbrev pub IsSettled : Held → Type 0
@@ -25,11 +28,11 @@ IsSettled g = g.entered ≡ length g.shapes
 
 -- the same, once all registered terms are entered
 abbrev pub all_entered : Held → Held
-all_entered g = record { shapes = g.shapes; facts = g.facts; levels = g.levels; entered = length g.shapes }
+all_entered g = record { shapes = g.shapes; types = g.types; facts = g.facts; levels = g.levels; entered = length g.shapes }
 
 -- once one more literal is read
 abbrev pub with_fact : Held → Fact → Held
-with_fact g f = record { shapes = g.shapes; facts = g.facts ++ f ∷ []; levels = g.levels; entered = g.entered }
+with_fact g f = record { shapes = g.shapes; types = g.types; facts = g.facts ++ f ∷ []; levels = g.levels; entered = g.entered }
 
 -- the literal on an atom of a bank is read
 abbrev pub ReadsLiteral : Held → Held → List Atom → AtomId → Bool → Type 0
@@ -43,9 +46,18 @@ is_registered shapes n = list_any (λ (s : Shape). n == s.number) shapes
 abbrev pub IsRegistered : List Shape → ℕ → Type 0
 IsRegistered shapes n = is_registered shapes n ≡ true
 
+-- a term with its type, if it has one
+abbrev pub typed_as : ℕ → Option Ty → List (TermId × Ty)
+typed_as n None = []
+typed_as n (Some ty) = (record { 0 = n }, ty) ∷ []
+
 -- the registered terms once a term of a bank is one of them
 abbrev pub with_term : List Shape → List Term → ℕ → List Shape
 with_term shapes terms n = if is_registered shapes n then shapes else shapes ++ shape_at n (slice_get terms n)
+
+-- the types once a term of a bank is registered
+abbrev pub with_type : List Shape → List (TermId × Ty) → ℕ → Option Ty → List (TermId × Ty)
+with_type shapes types n ty = if is_registered shapes n then types else types ++ typed_as n ty
 
 -- a term of a bank is registered; where all terms were entered, this one is too
 pub record Registers (old new : Held) (terms : List Term) (n : ℕ) : Type 0 where

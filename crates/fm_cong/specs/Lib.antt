@@ -10,3 +10,4 @@ pub mod Links
 pub mod Paths
 pub mod States
 pub mod Tables
+pub mod Types

@@ -1,7 +1,7 @@
 ghost use Rattle.std.specs.Prelude.{◌≡◌, ◌<◌, ◌≤◌, ◌++◌, ◌∷◌, [], length, OnOk, OnErr};
 ghost use Rattle.fm_cong.specs.Graphs.{cells_of};
 ghost use Rattle.fm_cong.specs.Growth.{AreBelow, HasMoreUses, HasPlace, SayTheSame};
-ghost use Rattle.fm_cong.specs.Levels.{IsSteady, KeepsAll, KeepsMarks};
+ghost use Rattle.fm_cong.specs.Levels.{AreSameRoots, IsSteady, KeepsAll, KeepsMarks, LogsClasses};
 ghost use Rattle.fm_cong.specs.States.{count_of};
 ghost use Rattle.fm_cong.specs.Tables.{AreUses, IsKnown};
 
@@ -64,6 +64,8 @@ pub(crate) fn put_member(
     ensures facts { state.new.facts.items ≡ state.old.facts.items }
     ensures kept { KeepsMarks state.old state.new }
     ensures nodes { count_of state.new ≡ count_of state.old }
+    ensures logged { OnOk result (LogsClasses state.old state.new) }
+    ensures roots { OnErr result (AreSameRoots state.old state.new) }
 {
     let before = members.len();
     members.push(member)?;

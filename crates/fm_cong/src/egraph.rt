@@ -1,11 +1,14 @@
-ghost use Rattle.std.specs.Prelude.{◌≡◌, ◌<◌, ◌↔◌, List, IsTrue, length, false, true, IfNone, IfOk, IfSome, OnOk, OnErr};
+ghost use Rattle.std.specs.Prelude.{◌≡◌, ◌<◌, ◌↔◌, List, IsTrue, length, map, false, true, IfNone, IfOk, IfSome, OnOk, OnErr};
 ghost use Rattle.fm_bank.specs.Closure.{object};
 ghost use Rattle.fm_cong.specs.Held.{AreEqual, AreUnequal, HasArguments, IsReadable, IsRegistered, IsSettled, IsTruth};
 ghost use Rattle.fm_cong.specs.Clashes.{HasNoClash, IsClash};
 ghost use Rattle.fm_cong.specs.Explained.{IsExplained};
 ghost use Rattle.fm_cong.specs.Links.{IsKnownNode, IsLinkOf};
 ghost use Rattle.fm_cong.specs.Held.{ReadsLiteral, Registers};
-ghost use Rattle.fm_cong.specs.Held.{all_entered, is_registered, nothing};
+ghost use Rattle.fm_cong.specs.Held.{all_entered, is_registered, nothing, with_type};
+ghost use Rattle.fm_cong.specs.Facts.{numbers_of_pair, unequal_of};
+ghost use Rattle.fm_cong.specs.Types.{AreOldest};
+ghost use Rattle.fm_bank.specs.Terms.{type_of};
 ghost use Rattle.fm_cong.specs.declared.fact.Fact.{Fact as TheFact};
 
 use crate::additions::{make_room, put_member};
@@ -17,12 +20,14 @@ use crate::literals::{fact_of, read_literal};
 use crate::mark::Mark;
 use crate::member::{Member, Uses};
 use crate::nodes::empty_state;
+use crate::pairs::{cut_pairs, note_pair};
 use crate::queries::{is_apart, truth_of};
 use crate::registry::{has_flag, member_of};
 use crate::state::State;
+use crate::types::{announce_type, note_type};
 use fm_bank::Bank;
-use fm_base::{AtomId, Memory, TermId, Undo};
-use fm_cells::Edge;
+use fm_base::{AtomId, Memory, SortId, TermId, Ty, Undo};
+use fm_cells::{Edge, Oldest};
 use std::alloc::Global;
 use std::marker::Model;
 
@@ -34,9 +39,12 @@ use std::marker::Model;
 pub struct Egraph {
     alloc: Global,
     members: Vec<Member>,
+    types: Vec<(TermId, Ty)>,
     flags: Vec<bool>,
     uses: Vec<Uses>,
     state: State,
+    pairs: Vec<(TermId, TermId)>,
+    oldest: Oldest,
     marks: Vec<Mark>,
 }
 
@@ -45,11 +53,11 @@ impl Model for Egraph {
 
     ghost Value = { Held };
 
-    ghost use Rattle.fm_cong.specs.Faithful.{IsFaithful, held_in};
+    ghost use Rattle.fm_cong.specs.Faithful.{IsWhole, held_in};
 
     ghost view = { held_in };
 
-    ghost invariant = { IsFaithful };
+    ghost invariant = { IsWhole };
 }
 
 impl Egraph {
@@ -61,9 +69,12 @@ impl Egraph {
         Ok(Egraph {
             alloc,
             members: Vec::new(alloc),
+            types: Vec::new(alloc),
             flags: Vec::new(alloc),
             uses: Vec::new(alloc),
             state,
+            pairs: Vec::new(alloc),
+            oldest: Oldest::new(alloc),
             marks: Vec::new(alloc),
         })
     }
@@ -74,13 +85,16 @@ impl Egraph {
         requires term { term.0 < length bank.now.terms }
         requires args { HasArguments self.old.shapes bank.now.terms term.0 }
         ensures registered { OnOk result (Registers self.old self.new bank.now.terms term.0) }
+        ensures types { OnOk result (self.new.types ≡ with_type self.old.shapes self.old.types term.0 (type_of bank.now.sig bank.now.terms term.0)) }
         ensures err { OnErr result (self.new ≡ self.old) }
     {
         if has_flag(self.flags.as_slice(), term.0) {
             return Ok(());
         }
+        let ty = bank.ty(term);
         let member = member_of(self.alloc, bank, term)?;
         let place = self.members.len();
+        announce_type(self.alloc, &mut self.types, &mut self.oldest, term, ty)?;
         make_room(
             self.alloc,
             &mut self.state,
@@ -89,6 +103,7 @@ impl Egraph {
             &member,
             place,
         )?;
+        let from = mark_of(&self.state);
         put_member(
             self.alloc,
             &mut self.state,
@@ -97,6 +112,10 @@ impl Egraph {
             member,
         )?;
         self.flags[term.0] = true;
+        note_type(&mut self.types, &mut self.oldest, term, ty);
+        self.oldest
+            .follow(&self.state.classes, from.class, from.size);
+        self.oldest.correct(&self.state.classes, term.0 + 2);
         Ok(())
     }
 
@@ -120,8 +139,11 @@ impl Egraph {
         ensures settled { OnOk result (self.new ≡ all_entered self.old) }
         ensures err { OnErr result (self.new ≡ self.old) }
     {
+        let from = mark_of(&self.state);
         let members = self.members.as_slice();
         settle(self.alloc, &mut self.state, members, self.uses.as_slice())?;
+        self.oldest
+            .follow(&self.state.classes, from.class, from.size);
         Ok(())
     }
 
@@ -133,6 +155,7 @@ impl Egraph {
         ensures err { OnErr result (self.new ≡ self.old) }
     {
         let fact = fact_of(bank, atom, true);
+        let from = mark_of(&self.state);
         let members = self.members.as_slice();
         read_literal(
             self.alloc,
@@ -141,6 +164,8 @@ impl Egraph {
             self.uses.as_slice(),
             fact,
         )?;
+        self.oldest
+            .follow(&self.state.classes, from.class, from.size);
         Ok(())
     }
 
@@ -152,7 +177,9 @@ impl Egraph {
         ensures read { OnOk result (ReadsLiteral self.old self.new bank.now.atoms atom false) }
         ensures err { OnErr result (self.new ≡ self.old) }
     {
+        self.pairs.reserve(1)?;
         let fact = fact_of(bank, atom, false);
+        let from = mark_of(&self.state);
         let members = self.members.as_slice();
         read_literal(
             self.alloc,
@@ -161,7 +188,18 @@ impl Egraph {
             self.uses.as_slice(),
             fact,
         )?;
+        note_pair(&mut self.pairs, fact);
+        self.oldest
+            .follow(&self.state.classes, from.class, from.size);
         Ok(())
+    }
+
+    /// The sides of the false equalities read, in the order in which they were read. Two terms are apart exactly where one of
+    /// these pairs has a side that is equal to each.
+    pub fn unequal_pairs(&self) -> &[(TermId, TermId)]
+        ensures { map numbers_of_pair result.now ≡ unequal_of self.now.facts }
+    {
+        self.pairs.as_slice()
     }
 
     /// Whether two registered terms of a settled graph are equal in the closure of the facts read over all registered
@@ -205,6 +243,15 @@ impl Egraph {
         truth_of(&self.state, term.0 + 2)
     }
 
+    /// The oldest term of each class of a sort of a settled graph, in ascending order: a term is older than another where its
+    /// number is smaller. It takes no memory.
+    pub fn classes(&self, sort: SortId) -> &[TermId]
+        requires settled { IsSettled self.now }
+        ensures oldest { AreOldest self.now sort result.now }
+    {
+        self.oldest.terms(sort)
+    }
+
     /// The explanation forest of a settled graph: the link of each node, where 0 is yes, 1 is no and the term n is n + 2; a
     /// node that has none is the end of its tree. It takes no memory.
     pub fn links(&self) -> &[Option<Edge>]
@@ -241,7 +288,13 @@ impl Undo for Egraph {
 
     fn undo_to(&mut self, level: usize) {
         let mark = self.marks[level];
-        undo(&mut self.state, self.members.as_slice(), mark);
+        cut_pairs(&mut self.pairs, &self.state.facts, mark.facts);
+        undo(
+            &mut self.state,
+            &mut self.oldest,
+            self.members.as_slice(),
+            mark,
+        );
         self.marks.truncate(level);
     }
 }

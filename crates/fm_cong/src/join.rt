@@ -78,7 +78,9 @@ fn merge(
 {
     let a = state.classes.class.get(node);
     let b = state.classes.class.get(to);
-    if state.classes.size.get(a) <= state.classes.size.get(b) {
+    let first = state.classes.size.get(a);
+    let second = state.classes.size.get(b);
+    if first.size <= second.size {
         merge_into(alloc, state, members, uses, node, to, cause)?;
     } else {
         merge_into(alloc, state, members, uses, to, node, cause)?;

@@ -14,12 +14,14 @@ mod literals;
 mod mark;
 mod member;
 mod nodes;
+mod pairs;
 mod queries;
 mod registry;
 mod state;
 mod table;
 #[cfg(test)]
 mod tests;
+mod types;
 
 pub use clash::Clash;
 pub use egraph::Egraph;

@@ -1,7 +1,7 @@
 ghost use Rattle.std.specs.Prelude.{◌≡◌, ◌<◌, ◌≤◌, ◌++◌, ◌∷◌, [], length, slice_get, None, Some, IfSome, OnOk, OnErr};
 ghost use Rattle.fm_cong.specs.Facts.{IsAtomBelow, joined_by};
 ghost use Rattle.fm_cong.specs.Graphs.{IsPairBelow, cells_of};
-ghost use Rattle.fm_cong.specs.Levels.{IsSteady, KeepsMarks, KeepsSteady};
+ghost use Rattle.fm_cong.specs.Levels.{IsSteady, KeepsMarks, KeepsSteady, LogsClasses};
 ghost use Rattle.fm_cong.specs.States.{count_of};
 ghost use Rattle.fm_cong.specs.Tables.{AreUses};
 
@@ -57,6 +57,7 @@ fn note(state: &mut State, fact: Fact) -> Result<(), Memory>
     ensures err { OnErr result (cells_of state.new ≡ cells_of state.old) }
     ensures kept { KeepsMarks state.old state.new }
     ensures nodes { count_of state.new ≡ count_of state.old }
+    ensures logged { OnOk result (LogsClasses state.old state.new) }
 {
     state.facts.push(fact)?;
     Ok(())
@@ -82,6 +83,7 @@ pub(crate) fn read_literal(
     ensures err { OnErr result (cells_of state.new ≡ cells_of state.old) }
     ensures kept { KeepsMarks state.old state.new }
     ensures nodes { count_of state.new ≡ count_of state.old }
+    ensures logged { OnOk result (LogsClasses state.old state.new) }
 {
     match joined(fact, state.classes.class.len()) {
         Some(pair) => read(alloc, state, members, uses, fact, pair.0, pair.1),

@@ -1,7 +1,7 @@
 ghost use Rattle.std.specs.Prelude.{◌≡◌, ◌<◌, ◌++◌, length, map, IfOk, OnOk, OnErr};
 ghost use Rattle.std.specs.List.{All};
 ghost use Rattle.fm_bank.specs.Closure.{object};
-ghost use Rattle.fm_cells.specs.Rings.{HasRing, one_or, own_or};
+ghost use Rattle.fm_cells.specs.Rings.{HasRing, own_or, root_or};
 ghost use Rattle.fm_cong.specs.Tables.{AreAgain, HasGrown, IsAgain, IsClassAgain, IsEntered, IsKnown, KeepsEntering, KeepsEnteringOf};
 ghost use Rattle.fm_cong.specs.Tables.{find_in, moved, new_entry, signature, uses_at};
 
@@ -187,7 +187,7 @@ pub(crate) fn enter_class(
     members: &[Member],
     uses: &[Uses],
 ) -> Result<(), Memory>
-    requires ring { HasRing (own_or classes.now.next.cells.items) (own_or classes.now.class.cells.items) (one_or classes.now.size.cells.items) from }
+    requires ring { HasRing (own_or classes.now.next.cells.items) (own_or classes.now.class.cells.items) (root_or classes.now.size.cells.items) from }
     requires from { from < length classes.now.class.cells.items }
     requires nexts { length classes.now.next.cells.items ≡ length classes.now.class.cells.items }
     requires sizes { length classes.now.size.cells.items ≡ length classes.now.class.cells.items }
@@ -198,7 +198,8 @@ pub(crate) fn enter_class(
     ensures sound { OnOk result (KeepsEntering members.now (moved from to classes.now.class.cells.items) table.old.entries waiting.old.items table.new.entries waiting.new.items) }
 {
     let mut at = from;
-    for _i in 0..classes.size.get(from) {
+    let root = classes.size.get(from);
+    for _i in 0..root.size {
         enter_node(
             alloc,
             table,

@@ -23,8 +23,9 @@ const TERMS: &[u8] = b"a.b.c.faf1f2fbpapbpc";
 
 // Registers a term (r), reads an equation (=) or its negation (/), a true (y) or a false (n) predicate term, opens a level
 // (m), goes back to one (u), settles (s); and asks: are two terms equal (?) or not (#), apart (|) or not (:), is a term
-// true (T), false (F) or neither (0), is there no clash (_), or one (!) of an atom (=) or of two terms.
-const CASES: [&[u8]; 6] = [
+// true (T), false (F) or neither (0), is there no clash (_), or one (!) of an atom (=) or of two terms, and which are the
+// oldest of their classes (c), of which there are three at most.
+const CASES: [&[u8]; 8] = [
     // f applied three times and twice to a leaves a
     b"r a r 1 r 2 r 3 =a3 #a1 =a2 ?a1 ?12",
     // terms that are registered above a level are joined again after an undo below it
@@ -35,6 +36,10 @@ const CASES: [&[u8]; 6] = [
     b"r a r b r c /ab |ab |ba :ac =bc |ac :bc _   =ac !=0",
     // truth goes over to equal terms, until a true one and a false one are equal
     b"r a r b r c r p r q r r y p n r Tp  0q  Fr  =ab Tq  #pr _   =ac !pr",
+    // the oldest terms of the classes, in order of age, through joins and undos
+    b"r a r b r c cabcm   =bc cab.=ac ca..u 0 cabc",
+    // and those of terms that are registered above a level
+    b"r c m   r a =ac ca..u 0 s   cac.r b cabc",
     // two levels
     b"r a r b r c m   =ab m   =bc ?ac u 1 ?ab #bc u 0 #ab",
 ];
@@ -176,6 +181,25 @@ fn look_for_clash(rt: &impl Abort, graph: &Egraph, step: &[u8]) {
     assert_eq!(rt; graph.clash(), wanted);
 }
 
+// Whether the terms have these letters, where a point stands for none.
+fn have_letters(list: &[TermId], letters: &[u8]) -> bool {
+    for (i, letter) in letters.iter().enumerate() {
+        let found = match list.get(i) {
+            Some(term) => NAMES.get(term.0).copied().unwrap_or(b'?'),
+            None => b'.',
+        };
+        if found != *letter {
+            return false;
+        }
+    }
+    true
+}
+
+fn list_classes(rt: &impl Abort, graph: &Egraph, step: &[u8]) {
+    assert!(rt; graph.is_settled());
+    assert!(rt; have_letters(graph.classes(SortId(0)), step.get(1..).unwrap_or(&[])));
+}
+
 // A level of the graph by its digit; the graph tells how many are open by the number of the next one alone.
 fn go_back(rt: &impl Abort, graph: &mut Egraph, digit: u8) -> Result<(), Memory> {
     let level = usize::from(digit.saturating_sub(b'0'));
@@ -200,6 +224,10 @@ fn run(rt: &impl Abort, graph: &mut Egraph, bank: &mut Bank, step: &[u8]) -> Res
         [b'u', _, digit, ..] => go_back(rt, graph, *digit),
         [b'T' | b'F' | b'0', x, ..] => {
             tell(rt, graph, step, term(*x));
+            Ok(())
+        }
+        [b'c', ..] => {
+            list_classes(rt, graph, step);
             Ok(())
         }
         [b'_' | b'!', ..] => {

@@ -1,8 +1,8 @@
 use Rattle.std.proofs.Common.{ℕ, ◌+◌, ◌<◌, ◌∷◌, List, length, drop, take_all, cond, refl, ap, subst, ◌∙◌, arith, length-set}
 use Rattle.fm_cells.specs.Members.{is_on}
-use Rattle.fm_cells.specs.Rings.{IsChain, one_or, own_or}
+use Rattle.fm_cells.specs.Rings.{IsChain, own_or, root_or}
 use Rattle.fm_cells.proofs.Logging.{logged_more, logged_none}
-use Rattle.fm_cells.proofs.Relabeling.{in_class, one_at, own_at, relabel_more, ring_turn}
+use Rattle.fm_cells.proofs.Relabeling.{in_class, own_at, relabel_more, ring_turn, root_size}
 use Rattle.fm_cells.proofs.rings.relabel.Goals as goal
 
 pub loop-i-init : goal.loop-i-init
@@ -11,14 +11,14 @@ loop-i-init c = record { whole = c.requires.ring; ring = c.requires.ring.ring; c
 pub set-requires : goal.set-requires
 set-requires c =
     let inv = c.loop-i.invariant in
-    let size = one_at c.args.size.now.cells.items c.args.from c.get-i-end.result c.get-i-end.ensures in
+    let size = root_size c.args.size.now.cells.items c.args.from c.get-root.result c.get-root.ensures in
     let t = ring_turn c.args.next.now.cells.items c.args.class.now.cells.items c.args.size.now.cells.items c.args.from c.loop-i.at c.loop-i._i inv.whole c.requires.from (omega (arith, c.loop-i-test.true, size, inv.whole.size_is)) inv.ring in
     omega (arith, t.below, inv.long)
 
 pub get-at-requires : goal.get-at-requires
 get-at-requires c =
     let inv = c.loop-i.invariant in
-    let size = one_at c.args.size.now.cells.items c.args.from c.get-i-end.result c.get-i-end.ensures in
+    let size = root_size c.args.size.now.cells.items c.args.from c.get-root.result c.get-root.ensures in
     let t = ring_turn c.args.next.now.cells.items c.args.class.now.cells.items c.args.size.now.cells.items c.args.from c.loop-i.at c.loop-i._i inv.whole c.requires.from (omega (arith, c.loop-i-test.true, size, inv.whole.size_is)) inv.ring in
     omega (arith, t.below, c.requires.nexts)
 
@@ -29,7 +29,7 @@ pub loop-i-preserved : goal.loop-i-preserved
 loop-i-preserved c =
     let inv = c.loop-i.invariant in
     let nodes = c.args.from ∷ inv.whole.others in
-    let size = one_at c.args.size.now.cells.items c.args.from c.get-i-end.result c.get-i-end.ensures in
+    let size = root_size c.args.size.now.cells.items c.args.from c.get-root.result c.get-root.ensures in
     let lt : c.loop-i._i < length (c.args.from ∷ inv.whole.others) = omega (arith, c.loop-i-test.true, size, inv.whole.size_is) in
     let t = ring_turn c.args.next.now.cells.items c.args.class.now.cells.items c.args.size.now.cells.items c.args.from c.loop-i.at c.loop-i._i inv.whole c.requires.from lt inv.ring in
     let at = own_at c.args.next.now.cells.items c.loop-i.at c.get-at.result c.get-at.ensures in
@@ -47,5 +47,5 @@ pub returns-clause-cells : goal.returns-clause-cells
 returns-clause-cells c =
     let inv = c.loop-i.invariant in
     let nodes = c.args.from ∷ inv.whole.others in
-    let size = one_at c.args.size.now.cells.items c.args.from c.get-i-end.result c.get-i-end.ensures in
-    λ x. inv.cells x ∙ (ap (λ (ns : List ℕ). cond (is_on ns x) c.args.to (own_or c.args.class.now.cells.items x)) (take_all c.loop-i._i nodes (omega (arith, c.loop-i-test.false, size, inv.whole.size_is))) ∙ in_class (own_or c.args.next.now.cells.items) (own_or c.args.class.now.cells.items) (one_or c.args.size.now.cells.items) c.args.from c.args.to inv.whole x)
+    let size = root_size c.args.size.now.cells.items c.args.from c.get-root.result c.get-root.ensures in
+    λ x. inv.cells x ∙ (ap (λ (ns : List ℕ). cond (is_on ns x) c.args.to (own_or c.args.class.now.cells.items x)) (take_all c.loop-i._i nodes (omega (arith, c.loop-i-test.false, size, inv.whole.size_is))) ∙ in_class (own_or c.args.next.now.cells.items) (own_or c.args.class.now.cells.items) (root_or c.args.size.now.cells.items) c.args.from c.args.to inv.whole x)

@@ -5,7 +5,7 @@ use Rattle.std.proofs.lemmas.List.{take_more}
 use Rattle.fm_cells.specs.Members.{is_on}
 use Rattle.fm_cells.specs.Rings.{IsChain, own_or}
 use Rattle.fm_cells.proofs.Members.{on_cases, on_one}
-use Rattle.fm_cells.proofs.Relabeling.{one_at, own_at, ring_turn}
+use Rattle.fm_cells.proofs.Relabeling.{root_size, own_at, ring_turn}
 use Rattle.fm_cong.specs.Tables.{IsAgain, moved, uses_at}
 use Rattle.fm_cong.proofs.Entering.{again_grown, grown_more, grown_none}
 use Rattle.fm_cong.proofs.table.enter_class.Goals as goal
@@ -18,7 +18,7 @@ get-at-requires c =
     let inv = c.loop-i.invariant in
     let cl = c.args.classes.now in
     let nodes = c.args.from ∷ inv.whole.others in
-    let size = one_at cl.size.cells.items c.args.from c.get-i-end.result c.get-i-end.ensures in
+    let size = root_size cl.size.cells.items c.args.from c.get-root.result c.get-root.ensures in
     let lt : c.loop-i._i < length (c.args.from ∷ inv.whole.others) = omega (arith, c.loop-i-test.true, size, inv.whole.size_is) in
     let t = ring_turn cl.next.cells.items cl.class.cells.items cl.size.cells.items c.args.from c.loop-i.at c.loop-i._i inv.whole c.requires.from lt inv.ring in
     omega (arith, t.below, c.requires.nexts)
@@ -28,7 +28,7 @@ loop-i-preserved c =
     let inv = c.loop-i.invariant in
     let cl = c.args.classes.now in
     let nodes = c.args.from ∷ inv.whole.others in
-    let size = one_at cl.size.cells.items c.args.from c.get-i-end.result c.get-i-end.ensures in
+    let size = root_size cl.size.cells.items c.args.from c.get-root.result c.get-root.ensures in
     let lt : c.loop-i._i < length (c.args.from ∷ inv.whole.others) = omega (arith, c.loop-i-test.true, size, inv.whole.size_is) in
     let t = ring_turn cl.next.cells.items cl.class.cells.items cl.size.cells.items c.args.from c.loop-i.at c.loop-i._i inv.whole c.requires.from lt inv.ring in
     let e = c.in_ok-enter_node.ensures in
@@ -50,6 +50,6 @@ pub returns-clause-entered : goal.returns-clause-entered
 returns-clause-entered c =
     let inv = c.loop-i.invariant in
     let nodes = c.args.from ∷ inv.whole.others in
-    let size = one_at c.args.classes.now.size.cells.items c.args.from c.get-i-end.result c.get-i-end.ensures in
+    let size = root_size c.args.classes.now.size.cells.items c.args.from c.get-root.result c.get-root.ensures in
     let all = take_all c.loop-i._i nodes (omega (arith, c.loop-i-test.false, size, inv.whole.size_is)) in
     λ x e. inv.entered x (ap (λ ns. is_on ns x) all ∙ (inv.whole.members x).1 e)

@@ -1,24 +1,41 @@
-use Rattle.std.proofs.Common.{◌≡◌, ◌++◌, ◌∷◌, [], List, ℕ, length, true, refl, sym, subst, ap, arith}
+use Rattle.std.proofs.Common.{◌≡◌, ◌+◌, ◌++◌, ◌∷◌, ◌∙◌, [], List, ℕ, length, true, false, inl, inr, refl, sym, subst, ap, arith}
 use Rattle.std.specs.Prelude.{slice_set}
 use Rattle.std.specs.Vec.{with_item}
-use Rattle.fm_cong.specs.Growth.{HasPlace}
+use Rattle.std.proofs.lemmas.Bool.Decides.{eqb_tells}
+use Rattle.fm_bank.specs.Closure.{Shape}
+use Rattle.fm_cells.proofs.Following.{kinds_same, nodes_same}
+use Rattle.fm_cong.specs.Facts.{unequal_of}
+use Rattle.fm_cong.specs.Growth.{HasPlace, is_flagged}
+use Rattle.fm_cong.specs.States.{count_of}
 use Rattle.fm_cong.specs.Tables.{AreUses}
 use Rattle.fm_cong.specs.declared.egraph.Egraph.TheInside.{Inside}
 use Rattle.fm_cong.proofs.Adding.{args_below, faithful_added, faithful_room, faithful_same, number_is, uses_more, uses_with}
+use Rattle.fm_cong.proofs.Tracking.{from_within, nodes_steady, right_after}
+use Rattle.fm_cong.proofs.Whole.{AreRead, kind_none, kind_other, nodes_noted, nodes_of, read_with, right_noted, roots_err, roots_more, sorts_same, sorts_with, whole_room}
 use Rattle.fm_cong.proofs.egraph.Egraph.add_term.Goals as goal
-
-pub make_room-requires : goal.make_room-requires
-make_room-requires c = record { args = args_below c.self.inside c.args.self.now c.args.bank.now.terms c.args.term.0 c.in_ok-member.member c.self.invariant c.self.view_is c.requires.args c.in_ok-member.ensures }
 
 pub invariant_of-self : goal.invariant_of-self
 invariant_of-self c =
     let g = c.self.inside in
+    let w = c.self.invariant in
+    let a = c.announce_type.ensures in
+    let h : Inside = record { alloc = g.alloc; members = g.members; types = c.announce_type.new.types; flags = g.flags; uses = g.uses; state = g.state; pairs = g.pairs; oldest = c.announce_type.new.oldest; marks = g.marks } in
+    whole_room g h w w.sound refl a.types refl refl a.kinds a.lists (a.ready w.ready) (roots_err g.state g.state refl)
+
+pub make_room-requires : goal.make_room-requires
+make_room-requires c = record { args = args_below c.self.inside c.args.self.now c.args.bank.now.terms c.args.term.0 c.in_ok-member.member c.self.invariant.sound c.self.view_is c.requires.args c.in_ok-member.ensures }
+
+pub invariant_of-self-in_err-make_room : goal.invariant_of-self-in_err-make_room
+invariant_of-self-in_err-make_room c =
+    let g = c.self.inside in
+    let w = c.self.invariant in
+    let a = c.announce_type.ensures in
     let e = c.in_err-make_room.ensures in
-    let h : Inside = record { alloc = g.alloc; members = g.members; flags = c.make_room.new.flags; uses = c.make_room.new.uses; state = c.make_room.new.state; marks = g.marks } in
-    faithful_room g h c.self.invariant refl refl e.state e.flags e.uses
+    let h : Inside = record { alloc = g.alloc; members = g.members; types = c.announce_type.new.types; flags = c.make_room.new.flags; uses = c.make_room.new.uses; state = c.make_room.new.state; pairs = g.pairs; oldest = c.announce_type.new.oldest; marks = g.marks } in
+    whole_room g h w (faithful_room g h c.self.invariant.sound refl refl e.state e.flags e.uses) refl a.types refl e.state.facts a.kinds a.lists (a.ready w.ready) (e.state.roots g.members.items w.sound.steady)
 
 pub put_member-requires-clause-steady : goal.put_member-requires-clause-steady
-put_member-requires-clause-steady c = c.in_ok-make_room.ensures.state.steady c.self.inside.members.items c.self.invariant.steady
+put_member-requires-clause-steady c = c.in_ok-make_room.ensures.state.steady c.self.inside.members.items c.self.invariant.sound.steady
 
 pub put_member-requires-clause-uses : goal.put_member-requires-clause-uses
 put_member-requires-clause-uses c =
@@ -28,29 +45,87 @@ put_member-requires-clause-uses c =
     let us = c.make_room.new.uses.items in
     let at : c.len-place.result ≡ length c.self.inside.members.items = omega (arith, c.len-place.ensures, g.members.ok.0) in
     let place = subst (λ (k : ℕ). HasPlace us c.in_ok-member.member.args k) at e.place in
-    subst (λ (vs : List (List ℕ)). AreUses (c.self.inside.members.items ++ c.in_ok-member.member ∷ []) vs) (sym c.as_slice-2.ensures.value) (uses_with g.members.items m us (uses_more g.members.items g.uses.items us e.uses c.self.invariant.uses) place)
+    subst (λ (vs : List (List ℕ)). AreUses (c.self.inside.members.items ++ c.in_ok-member.member ∷ []) vs) (sym c.as_slice-2.ensures.value) (uses_with g.members.items m us (uses_more g.members.items g.uses.items us e.uses c.self.invariant.sound.uses) place)
 
 pub invariant_of-self-in_err-put_member : goal.invariant_of-self-in_err-put_member
 invariant_of-self-in_err-put_member c =
     let g = c.self.inside in
+    let w = c.self.invariant in
+    let a = c.announce_type.ensures in
     let r = c.in_ok-make_room.ensures in
     let e = c.in_err-put_member.ensures in
-    let room : Inside = record { alloc = g.alloc; members = g.members; flags = c.make_room.new.flags; uses = c.make_room.new.uses; state = c.make_room.new.state; marks = g.marks } in
-    let h : Inside = record { alloc = g.alloc; members = c.put_member.new.members; flags = c.make_room.new.flags; uses = c.make_room.new.uses; state = c.put_member.new.state; marks = g.marks } in
-    faithful_same room h (faithful_room g room c.self.invariant refl refl r.state r.flags r.uses) e.err refl refl refl e.steady e.quiet e.entered e.kept e.nodes e.facts
+    let room : Inside = record { alloc = g.alloc; members = g.members; types = c.announce_type.new.types; flags = c.make_room.new.flags; uses = c.make_room.new.uses; state = c.make_room.new.state; pairs = g.pairs; oldest = c.announce_type.new.oldest; marks = g.marks } in
+    let h : Inside = record { alloc = g.alloc; members = c.put_member.new.members; types = c.announce_type.new.types; flags = c.make_room.new.flags; uses = c.make_room.new.uses; state = c.put_member.new.state; pairs = g.pairs; oldest = c.announce_type.new.oldest; marks = g.marks } in
+    let sound = faithful_same room h (faithful_room g room c.self.invariant.sound refl refl r.state r.flags r.uses) e.err refl refl refl e.steady e.quiet e.entered e.kept e.nodes e.facts in
+    whole_room g h w sound e.err a.types refl (e.facts ∙ r.state.facts) a.kinds a.lists (a.ready w.ready) (roots_more g.state c.make_room.new.state c.put_member.new.state (r.state.roots g.members.items w.sound.steady) e.roots)
+
+pub note_type-requires-clause-announced : goal.note_type-requires-clause-announced
+note_type-requires-clause-announced c = c.in_ok-announce_type.ensures.announced c.self.invariant.ready
+
+pub note_type-requires-clause-new : goal.note_type-requires-clause-new
+note_type-requires-clause-new c =
+    let g = c.self.inside in
+    let w = c.self.invariant in
+    let unset : is_flagged c.self.inside.flags.items c.args.term.0 ≡ false = cc in
+    c.in_ok-announce_type.ensures.kinds c.args.term.0 ∙ kind_none g w c.args.term.0 (sym (w.sound.flags c.args.term.0) ∙ unset)
+
+pub follow-requires-clause-nodes : goal.follow-requires-clause-nodes
+follow-requires-clause-nodes c =
+    let g = c.self.inside in
+    let w = c.self.invariant in
+    let a = c.in_ok-announce_type.ensures in
+    let r = c.in_ok-make_room.ensures in
+    let e = c.in_ok-put_member.ensures in
+    let number = number_is c.args.bank.now.terms c.args.term.0 c.in_ok-member.member c.in_ok-member.ensures in
+    nodes_steady c.put_member.new.members.items c.put_member.new.state c.note_type.new.oldest e.steady (nodes_noted c.announce_type.new.oldest c.note_type.new.oldest c.args.term c.ty-ty.result (count_of c.put_member.new.state) c.note_type.ensures.kinds (omega (arith, r.known.node, number, e.nodes)) (λ n k is. let l = nodes_of g w n k (sym (a.kinds n) ∙ is) in omega (arith, l, r.state.nodes, e.nodes)))
+
+pub follow-requires-clause-class : goal.follow-requires-clause-class
+follow-requires-clause-class c = omega (arith, c.mark_of-from.ensures.class, (from_within c.make_room.new.state c.put_member.new.state c.in_ok-put_member.ensures.logged).0)
+
+pub follow-requires-clause-size : goal.follow-requires-clause-size
+follow-requires-clause-size c = omega (arith, c.mark_of-from.ensures.size, (from_within c.make_room.new.state c.put_member.new.state c.in_ok-put_member.ensures.logged).1)
+
+pub correct-requires-clause-nodes : goal.correct-requires-clause-nodes
+correct-requires-clause-nodes c =
+    let g = c.self.inside in
+    let w = c.self.invariant in
+    let a = c.in_ok-announce_type.ensures in
+    let r = c.in_ok-make_room.ensures in
+    let e = c.in_ok-put_member.ensures in
+    let number = number_is c.args.bank.now.terms c.args.term.0 c.in_ok-member.member c.in_ok-member.ensures in
+    let before = nodes_steady c.put_member.new.members.items c.put_member.new.state c.note_type.new.oldest e.steady (nodes_noted c.announce_type.new.oldest c.note_type.new.oldest c.args.term c.ty-ty.result (count_of c.put_member.new.state) c.note_type.ensures.kinds (omega (arith, r.known.node, number, e.nodes)) (λ n k is. let l = nodes_of g w n k (sym (a.kinds n) ∙ is) in omega (arith, l, r.state.nodes, e.nodes))) in
+    nodes_same c.note_type.new.oldest c.follow.new.self c.put_member.new.state.classes c.follow.ensures.kinds before
 
 pub invariant_of-self-2 : goal.invariant_of-self-2
 invariant_of-self-2 c =
     let g = c.self.inside in
+    let w = c.self.invariant in
     let m = c.in_ok-member.member in
+    let a = c.in_ok-announce_type.ensures in
     let r = c.in_ok-make_room.ensures in
     let e = c.in_ok-put_member.ensures in
+    let n = c.note_type.ensures in
     let us = c.make_room.new.uses.items in
-    let room : Inside = record { alloc = g.alloc; members = g.members; flags = c.make_room.new.flags; uses = c.make_room.new.uses; state = c.make_room.new.state; marks = g.marks } in
-    let h : Inside = record { alloc = g.alloc; members = c.put_member.new.members; flags = with_item c.make_room.new.flags c.args.term.0 true; uses = c.make_room.new.uses; state = c.put_member.new.state; marks = g.marks } in
+    let room : Inside = record { alloc = g.alloc; members = g.members; types = c.announce_type.new.types; flags = c.make_room.new.flags; uses = c.make_room.new.uses; state = c.make_room.new.state; pairs = g.pairs; oldest = c.announce_type.new.oldest; marks = g.marks } in
+    let h : Inside = record { alloc = g.alloc; members = c.put_member.new.members; types = c.note_type.new.types; flags = with_item c.make_room.new.flags c.args.term.0 true; uses = c.make_room.new.uses; state = c.put_member.new.state; pairs = g.pairs; oldest = c.correct.new.self; marks = g.marks } in
     let at : c.len-place.result ≡ length c.self.inside.members.items = omega (arith, c.len-place.ensures, g.members.ok.0) in
     let place = subst (λ (k : ℕ). HasPlace us c.in_ok-member.member.args k) at r.place in
-    let uses = uses_with g.members.items m us (uses_more g.members.items g.uses.items us r.uses c.self.invariant.uses) place in
+    let uses = uses_with g.members.items m us (uses_more g.members.items g.uses.items us r.uses c.self.invariant.sound.uses) place in
     let number = number_is c.args.bank.now.terms c.args.term.0 m c.in_ok-member.ensures in
     let flags = ap (λ (k : ℕ). slice_set c.make_room.new.flags.items k true) (sym number) in
-    faithful_added room h m (faithful_room g room c.self.invariant refl refl r.state r.flags r.uses) e.members refl e.steady e.quiet e.entered e.kept e.nodes e.facts r.known uses r.flag flags
+    let facts = e.facts ∙ r.state.facts in
+    let unset : is_flagged c.self.inside.flags.items c.args.term.0 ≡ false = cc in
+    let free = sym (w.sound.flags c.args.term.0) ∙ unset in
+    let none = a.kinds c.args.term.0 ∙ kind_none g w c.args.term.0 free in
+    let sorted = sorts_with g.members.items m c.announce_type.new.types.items c.announce_type.new.oldest c.note_type.new.oldest c.args.term number free none (sorts_same g.members.items g.members.items g.types.items c.announce_type.new.types.items g.oldest c.announce_type.new.oldest refl a.types a.kinds w.sorts) c.ty-ty.result n.kinds in
+    record {
+      sound = faithful_added room h m (faithful_room g room c.self.invariant.sound refl refl r.state r.flags r.uses) e.members refl e.steady e.quiet e.entered e.kept e.nodes e.facts r.known uses r.flag flags;
+      unequal = w.unequal ∙ sym (ap unequal_of facts);
+      read = subst (λ (ss : List Shape). AreRead ss c.put_member.new.state.facts.items) (sym e.members) (subst (AreRead (g.members.items ++ m ∷ [])) (sym facts) (read_with g.members.items m g.state.facts.items w.read));
+      sorts = sorts_same (g.members.items ++ m ∷ []) c.put_member.new.members.items (c.announce_type.new.types.items ++ (c.args.term, c.ty-ty.result) ∷ []) c.note_type.new.types.items c.note_type.new.oldest c.correct.new.self e.members n.types (λ k. kinds_same c.follow.new.self c.correct.new.self c.correct.ensures.kinds k ∙ kinds_same c.note_type.new.oldest c.follow.new.self c.follow.ensures.kinds k) sorted;
+      ready = c.correct.ensures.ready;
+      right = λ k. elim (eqb_tells k c.args.term.0) [
+        | inl same ↦ c.correct.ensures.right k (ap (λ (z : ℕ). z + 2) same.1)
+        | inr other ↦ c.correct.ensures.kept k (right_after c.make_room.new.state c.put_member.new.state c.note_type.new.oldest c.follow.new.self c.mark_of-from.result.class c.mark_of-from.result.size e.logged c.mark_of-from.ensures.class c.mark_of-from.ensures.size c.follow.ensures.right k (right_noted g.state c.make_room.new.state g.oldest c.note_type.new.oldest k (kind_other c.announce_type.new.oldest c.note_type.new.oldest c.args.term c.ty-ty.result n.kinds k other.1 ∙ a.kinds k) (λ s. n.lists s ∙ a.lists s) (r.state.roots g.members.items w.sound.steady) (w.right k)))
+      ];
+    }

@@ -7,10 +7,10 @@ use Rattle.fm_cong.proofs.Reading.{classes_exact}
 use Rattle.fm_cong.proofs.egraph.Egraph.apart.Goals as goal
 
 pub is_apart-requires-clause-node : goal.is_apart-requires-clause-node
-is_apart-requires-clause-node c = node_in c.self.inside c.self.invariant c.args.self.now c.self.view_is c.args.a.0 c.requires.a
+is_apart-requires-clause-node c = node_in c.self.inside c.self.invariant.sound c.args.self.now c.self.view_is c.args.a.0 c.requires.a
 
 pub is_apart-requires-clause-other : goal.is_apart-requires-clause-other
-is_apart-requires-clause-other c = node_in c.self.inside c.self.invariant c.args.self.now c.self.view_is c.args.b.0 c.requires.b
+is_apart-requires-clause-other c = node_in c.self.inside c.self.invariant.sound c.args.self.now c.self.view_is c.args.b.0 c.requires.b
 
 pub returns : goal.returns
 returns c =
@@ -19,7 +19,7 @@ returns c =
     let b = c.args.b.0 in
     let facts = g.state.facts.items in
     let cells = g.state.classes.class.cells.items in
-    let complete = complete_in g c.self.invariant c.args.self.now c.self.view_is c.requires.settled in
+    let complete = complete_in g c.self.invariant.sound c.args.self.now c.self.view_is c.requires.settled in
     let exact = classes_exact g.members.items (cells_of g.state) complete in (
       (λ t. subst (λ (h : Held). AreUnequal h c.args.a.0 c.args.b.0) c.self.view_is (parted_from g.members.items (pairs_of facts) cells exact a b facts (sym c.is_apart.ensures ∙ t))),
       (λ h. c.is_apart.ensures ∙ parted_to g.members.items (pairs_of facts) cells exact a b facts (subst (λ (k : Held). AreUnequal k c.args.a.0 c.args.b.0) (sym c.self.view_is) h)),

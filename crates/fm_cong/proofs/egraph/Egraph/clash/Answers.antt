@@ -12,13 +12,13 @@ use Rattle.fm_cong.proofs.egraph.Egraph.clash.Goals as goal
 pub returns-clause-some : goal.returns-clause-some
 returns-clause-some c =
     let g = c.self.inside in
-    let complete = complete_in g c.self.invariant c.args.self.now c.self.view_is c.requires.settled in
+    let complete = complete_in g c.self.invariant.sound c.args.self.now c.self.view_is c.requires.settled in
     let told = clash_told (held_in g) g.state.classes.class.cells.items (classes_exact g.members.items (cells_of g.state) complete) complete.steady.holds c.clash_of.result c.clash_of.ensures in
     subst (λ (h : Held). IfSome c.clash_of.result (IsClash h)) c.self.view_is told.some
 
 pub returns-clause-none : goal.returns-clause-none
 returns-clause-none c =
     let g = c.self.inside in
-    let complete = complete_in g c.self.invariant c.args.self.now c.self.view_is c.requires.settled in
+    let complete = complete_in g c.self.invariant.sound c.args.self.now c.self.view_is c.requires.settled in
     let told = clash_told (held_in g) g.state.classes.class.cells.items (classes_exact g.members.items (cells_of g.state) complete) complete.steady.holds c.clash_of.result c.clash_of.ensures in
     subst (λ (h : Held). IfNone c.clash_of.result (HasNoClash h)) c.self.view_is told.none

@@ -10,5 +10,5 @@ use Rattle.fm_cong.proofs.egraph.Egraph.links.Goals as goal
 pub returns : goal.returns
 returns c =
     let g = c.self.inside in
-    let told = explained_in g (complete_in g c.self.invariant c.args.self.now c.self.view_is c.requires.settled) in
+    let told = explained_in g (complete_in g c.self.invariant.sound c.args.self.now c.self.view_is c.requires.settled) in
     record { explained = subst (λ (h : Held). IsExplained h c.as_slice.result.now) c.self.view_is (subst (λ (ls : List (Option Edge)). IsExplained (held_in g) ls) (sym c.as_slice.ensures.value) told) }

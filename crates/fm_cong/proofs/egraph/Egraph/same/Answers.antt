@@ -7,10 +7,10 @@ use Rattle.fm_cong.proofs.Keeping.{node_in}
 use Rattle.fm_cong.proofs.egraph.Egraph.same.Goals as goal
 
 pub are_same-requires-clause-node : goal.are_same-requires-clause-node
-are_same-requires-clause-node c = node_in c.self.inside c.self.invariant c.args.self.now c.self.view_is c.args.a.0 c.requires.a
+are_same-requires-clause-node c = node_in c.self.inside c.self.invariant.sound c.args.self.now c.self.view_is c.args.a.0 c.requires.a
 
 pub are_same-requires-clause-other : goal.are_same-requires-clause-other
-are_same-requires-clause-other c = node_in c.self.inside c.self.invariant c.args.self.now c.self.view_is c.args.b.0 c.requires.b
+are_same-requires-clause-other c = node_in c.self.inside c.self.invariant.sound c.args.self.now c.self.view_is c.args.b.0 c.requires.b
 
 pub returns : goal.returns
 returns c =

@@ -1,33 +1,70 @@
-use Rattle.std.proofs.Common.{◌≡◌, Option, Some, false, ap, arith}
+use Rattle.std.proofs.Common.{◌≡◌, ◌∙◌, Option, Some, false, refl, sym, ap, arith, map, ◌++◌, []}
 use Rattle.std.specs.Prelude.{slice_get}
 use Rattle.fm_bank.specs.declared.atom.Atom.{Atom}
+use Rattle.fm_cells.proofs.Following.{kinds_same}
+use Rattle.std.specs.List.{cons_option}
+use Rattle.fm_cong.specs.Facts.{numbers_of_pair, unequal_by}
 use Rattle.fm_cong.specs.Graphs.{Cells}
 use Rattle.fm_cong.specs.States.{count_of}
+use Rattle.fm_cong.specs.declared.egraph.Egraph.TheInside.{Inside}
 use Rattle.fm_cong.proofs.Keeping.{atom_in, atoms_read, atoms_same, faithful_with, read_held, uses_lent}
+use Rattle.fm_cong.proofs.Tracking.{from_within, nodes_steady, right_after}
+use Rattle.fm_cong.proofs.Whole.{joins_in, nodes_of, read_more, roots_err, sorts_same, unequal_read, whole_room}
 use Rattle.fm_cong.proofs.egraph.Egraph.unequal.Goals as goal
-
-pub read_literal-requires-clause-uses : goal.read_literal-requires-clause-uses
-read_literal-requires-clause-uses c = uses_lent c.self.inside c.self.invariant c.as_slice-members.result.now c.as_slice.result.now c.as_slice-members.ensures.value c.as_slice.ensures.value
-
-pub read_literal-requires-clause-atom : goal.read_literal-requires-clause-atom
-read_literal-requires-clause-atom c = atom_in c.self.inside c.self.invariant c.args.self.now c.self.view_is c.args.bank.now.atoms c.args.atom c.fact_of-fact.result.atom c.fact_of-fact.ensures.atom c.requires.registered
 
 pub invariant_of-self : goal.invariant_of-self
 invariant_of-self c =
     let g = c.self.inside in
+    let w = c.self.invariant in
+    let h : Inside = record { alloc = g.alloc; members = g.members; types = g.types; flags = g.flags; uses = g.uses; state = g.state; pairs = c.reserve.new.self; oldest = g.oldest; marks = g.marks } in
+    whole_room g h w w.sound refl refl c.in_err-reserve.ensures.items refl (λ n. refl) (λ s. refl) w.ready (roots_err g.state g.state refl)
+
+pub read_literal-requires-clause-uses : goal.read_literal-requires-clause-uses
+read_literal-requires-clause-uses c = uses_lent c.self.inside c.self.invariant.sound c.as_slice-members.result.now c.as_slice.result.now c.as_slice-members.ensures.value c.as_slice.ensures.value
+
+pub read_literal-requires-clause-atom : goal.read_literal-requires-clause-atom
+read_literal-requires-clause-atom c = atom_in c.self.inside c.self.invariant.sound c.args.self.now c.self.view_is c.args.bank.now.atoms c.args.atom c.fact_of-fact.result.atom c.fact_of-fact.ensures.atom c.requires.registered
+
+pub invariant_of-self-in_err-read_literal : goal.invariant_of-self-in_err-read_literal
+invariant_of-self-in_err-read_literal c =
+    let g = c.self.inside in
+    let w = c.self.invariant in
     let e = c.in_err-read_literal.ensures in
     let facts = ap (λ (x : Cells). x.facts) e.err in
-    let atoms = atoms_same (count_of g.state) (count_of c.read_literal.new.state) g.state.facts.items c.read_literal.new.state.facts.items e.nodes facts c.self.invariant.atoms in
-    faithful_with c.self.inside c.self.invariant c.read_literal.new.state c.as_slice-members.result.now c.as_slice-members.ensures.value e.steady e.quiet (omega (arith, e.entered, c.self.invariant.entered)) e.kept e.nodes atoms
+    let atoms = atoms_same (count_of g.state) (count_of c.read_literal.new.state) g.state.facts.items c.read_literal.new.state.facts.items e.nodes facts c.self.invariant.sound.atoms in
+    let sound = faithful_with c.self.inside c.self.invariant.sound c.read_literal.new.state c.as_slice-members.result.now c.as_slice-members.ensures.value e.steady e.quiet (omega (arith, e.entered, c.self.invariant.sound.entered)) e.kept e.nodes atoms in
+    let h : Inside = record { alloc = g.alloc; members = g.members; types = g.types; flags = g.flags; uses = g.uses; state = c.read_literal.new.state; pairs = c.reserve.new.self; oldest = g.oldest; marks = g.marks } in
+    whole_room g h w sound refl refl c.in_ok-reserve.ensures.items facts (λ n. refl) (λ s. refl) w.ready (roots_err g.state c.read_literal.new.state e.err)
+
+pub follow-requires-clause-nodes : goal.follow-requires-clause-nodes
+follow-requires-clause-nodes c =
+    let g = c.self.inside in
+    let e = c.in_ok-read_literal.ensures in
+    nodes_steady c.as_slice-members.result.now c.read_literal.new.state g.oldest e.steady (λ n k is. let l = nodes_of g c.self.invariant n k is in omega (arith, l, e.nodes))
+
+pub follow-requires-clause-class : goal.follow-requires-clause-class
+follow-requires-clause-class c = omega (arith, c.mark_of-from.ensures.class, (from_within c.self.inside.state c.read_literal.new.state c.in_ok-read_literal.ensures.logged).0)
+
+pub follow-requires-clause-size : goal.follow-requires-clause-size
+follow-requires-clause-size c = omega (arith, c.mark_of-from.ensures.size, (from_within c.self.inside.state c.read_literal.new.state c.in_ok-read_literal.ensures.logged).1)
 
 pub invariant_of-self-2 : goal.invariant_of-self-2
 invariant_of-self-2 c =
     let g = c.self.inside in
+    let w = c.self.invariant in
     let e = c.in_ok-read_literal.ensures in
+    let t = c.read_literal.new.state in
     let fact = c.fact_of-fact.result in
-    let here = atom_in c.self.inside c.self.invariant c.args.self.now c.self.view_is c.args.bank.now.atoms c.args.atom fact.atom c.fact_of-fact.ensures.atom c.requires.registered in
-    let atoms = atoms_read (count_of g.state) (count_of c.read_literal.new.state) g.state.facts.items c.read_literal.new.state.facts.items fact e.nodes e.facts here c.self.invariant.atoms in
-    faithful_with c.self.inside c.self.invariant c.read_literal.new.state c.as_slice-members.result.now c.as_slice-members.ensures.value e.steady e.quiet (omega (arith, e.entered, c.self.invariant.entered)) e.kept e.nodes atoms
+    let here = atom_in c.self.inside c.self.invariant.sound c.args.self.now c.self.view_is c.args.bank.now.atoms c.args.atom fact.atom c.fact_of-fact.ensures.atom c.requires.registered in
+    let atoms = atoms_read (count_of g.state) (count_of c.read_literal.new.state) g.state.facts.items c.read_literal.new.state.facts.items fact e.nodes e.facts here c.self.invariant.sound.atoms in
+    record {
+      sound = faithful_with c.self.inside c.self.invariant.sound c.read_literal.new.state c.as_slice-members.result.now c.as_slice-members.ensures.value e.steady e.quiet (omega (arith, e.entered, c.self.invariant.sound.entered)) e.kept e.nodes atoms;
+      unequal = c.note_pair.ensures ∙ ((λ i. map numbers_of_pair (c.in_ok-reserve.ensures.items i) ++ cons_option (unequal_by fact) []) ∙ ((λ i. w.unequal i ++ cons_option (unequal_by fact) []) ∙ sym (unequal_read g.state.facts.items t.facts.items fact e.facts)));
+      read = read_more g.members.items g.state.facts.items t.facts.items fact e.facts (joins_in g c.args.self.now c.self.view_is c.args.bank.now.atoms c.args.atom fact.atom c.fact_of-fact.ensures.atom c.requires.registered) w.read;
+      sorts = sorts_same g.members.items g.members.items g.types.items g.types.items g.oldest c.follow.new.self refl refl (kinds_same g.oldest c.follow.new.self c.follow.ensures.kinds) w.sorts;
+      ready = c.follow.ensures.ready;
+      right = λ n. right_after g.state t g.oldest c.follow.new.self c.mark_of-from.result.class c.mark_of-from.result.size e.logged c.mark_of-from.ensures.class c.mark_of-from.ensures.size c.follow.ensures.right n (w.right n);
+    }
 
 some_one : (o : Option Atom) (a b : Atom) → o ≡ Some a → o ≡ Some b → b ≡ a
 some_one o a b p q = cc
@@ -36,4 +73,4 @@ pub returns-clause-read : goal.returns-clause-read
 returns-clause-read c = λ a there.
     let e = c.in_ok-read_literal.ensures in
     let fact = c.fact_of-fact in
-    read_held c.self.inside c.self.invariant c.args.self.now c.self.view_is c.read_literal.new.state c.args.atom false a c.fact_of-fact.result e.facts e.entered fact.ensures.lit (some_one (slice_get c.args.bank.now.atoms c.args.atom.0) a fact.result.atom there fact.ensures.atom)
+    read_held c.self.inside c.self.invariant.sound c.args.self.now c.self.view_is c.read_literal.new.state c.args.atom false a c.fact_of-fact.result e.facts e.entered fact.ensures.lit (some_one (slice_get c.args.bank.now.atoms c.args.atom.0) a fact.result.atom there fact.ensures.atom)
