@@ -19,6 +19,11 @@ pub record Held : Type 0 where
   pub levels : List (List Fact)
   pub entered : ℕ
 
+-- the same terms are registered
+pub record HasSameTerms (old new : Held) : Type 0 where
+  pub shapes : new.shapes ≡ old.shapes
+  pub types : new.types ≡ old.types
+
 abbrev pub nothing : Held
 nothing = record { shapes = []; types = []; facts = []; levels = []; entered = 0 }
 

@@ -1,10 +1,10 @@
-ghost use Rattle.std.specs.Prelude.{◌≡◌, ◌<◌, ◌↔◌, List, IsTrue, length, map, false, true, IfNone, IfOk, IfSome, OnOk, OnErr};
+ghost use Rattle.std.specs.Prelude.{◌≡◌, ◌<◌, ◌↔◌, ◌++◌, ◌∷◌, [], List, IsTrue, length, map, slice_get, take, false, true, Some, IfNone, IfOk, IfSome, OnOk, OnErr};
 ghost use Rattle.fm_bank.specs.Closure.{object};
 ghost use Rattle.fm_cong.specs.Held.{AreEqual, AreUnequal, HasArguments, IsReadable, IsRegistered, IsSettled, IsTruth};
 ghost use Rattle.fm_cong.specs.Clashes.{HasNoClash, IsClash};
 ghost use Rattle.fm_cong.specs.Explained.{IsExplained};
 ghost use Rattle.fm_cong.specs.Links.{IsKnownNode, IsLinkOf};
-ghost use Rattle.fm_cong.specs.Held.{ReadsLiteral, Registers};
+ghost use Rattle.fm_cong.specs.Held.{HasSameTerms, ReadsLiteral, Registers};
 ghost use Rattle.fm_cong.specs.Held.{all_entered, is_registered, nothing, with_type};
 ghost use Rattle.fm_cong.specs.Facts.{numbers_of_pair, unequal_of};
 ghost use Rattle.fm_cong.specs.Types.{AreOldest};
@@ -279,14 +279,28 @@ impl Undo for Egraph {
 
     ghost levels = { λ g. g.levels };
 
-    fn mark(&mut self) -> Result<usize, Memory> {
+    /// Opens a level; registered terms and what was read stay as they are.
+    fn mark(&mut self) -> Result<usize, Memory>
+        ensures number { IfOk result (λ n. n ≡ length self.old.levels) }
+        ensures opened { OnOk result (self.new.levels ≡ self.old.levels ++ self.old.facts ∷ []) }
+        ensures same { self.new.facts ≡ self.old.facts }
+        ensures err { OnErr result (self.new.levels ≡ self.old.levels) }
+        ensures terms { HasSameTerms self.old self.new }
+        ensures entered { self.new.entered ≡ self.old.entered }
+    {
         let level = self.marks.len();
         let mark = mark_of(&self.state);
         self.marks.push(mark)?;
         Ok(level)
     }
 
-    fn undo_to(&mut self, level: usize) {
+    /// Takes the literals read since the level was opened back. Registered terms stay, and the graph may be unsettled then.
+    fn undo_to(&mut self, level: usize)
+        requires { level < length self.old.levels }
+        ensures levels { self.new.levels ≡ take level self.old.levels }
+        ensures content { slice_get self.old.levels level ≡ Some self.new.facts }
+        ensures terms { HasSameTerms self.old self.new }
+    {
         let mark = self.marks[level];
         cut_pairs(&mut self.pairs, &self.state.facts, mark.facts);
         undo(
