@@ -40,6 +40,10 @@ framed outer (Frame.Args back before args) = given_at before.now args.now outer
 abbrev pub names_at : List Frame → ℕ → Names
 names_at fs n = at_frame no_names framed fs n
 
+-- the frame of this number gives the arguments, which are read under the frame of the use
+abbrev pub GivesArguments : List Frame → List Frame → List Entry → List ℕ → ℕ → ℕ → Type 0
+GivesArguments old new before args frame n = names_at new n ≡ given_at before args (names_at old frame)
+
 -- a tree in the kind that is wanted of it, if one is
 abbrev pub wanted : Option Bool → Tree → Tree
 wanted None t = t

@@ -1,7 +1,7 @@
 ghost use Rattle.std.specs.Prelude.{◌≡◌, ◌+◌, ◌<◌, ◌≤◌, ℕ, length, take, None, IfOk, IfSome, OnOk};
 ghost use Rattle.fm_arena.specs.Trees.{of_kind};
 ghost use Rattle.fm_arena.specs.Meanings.{inside};
-ghost use Rattle.fm_arena.specs.Frames.{IsEnd, IsFound, IsNearer, IsWithin, Leads, back_of as back_of_frame, given_at};
+ghost use Rattle.fm_arena.specs.Frames.{GivesArguments, IsEnd, IsFound, IsNearer, IsWithin, Leads, back_of as back_of_frame};
 ghost use Rattle.fm_arena.specs.Frames.{names_at, node_room, node_tree, room_at, spot_room, spot_tree, term_room, term_tree};
 
 use crate::node::{Entry, Node, Op};
@@ -152,7 +152,7 @@ fn enter<'a>(
     frame: usize,
 ) -> Result<usize, Memory>
     requires { frame ≤ length frames.old.items }
-    ensures names { IfOk result (λ n. names_at frames.new.items n ≡ given_at before.now args.now (names_at frames.old.items frame)) }
+    ensures names { IfOk result (GivesArguments frames.old.items frames.new.items before.now args.now frame) }
     ensures within { IfOk result (λ n. n ≤ length frames.new.items) }
     ensures room { IfOk result (λ n. room_at frames.new.items n ≡ term_room frames.old.items before.now frame + 1) }
     ensures frames { OnOk result (take (length frames.old.items) frames.new.items ≡ frames.old.items) }

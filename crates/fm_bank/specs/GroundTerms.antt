@@ -55,6 +55,13 @@ application_ground_grown f ts terms =
     let args = terms_ground_grown ts terms in
     ground_applied f args.0 args.1
 
+-- the ground terms of a list, or of an application, have been put in, and these are their numbers where all are ground
+abbrev pub PutsTerms : List Pterm → List Term → List Term → Option (List ℕ) → Type 0
+PutsTerms ts old new found = terms_ground_grown ts old ≡ (new, found)
+
+abbrev pub PutsApplied : ℕ → List Pterm → List Term → List Term → Option ℕ → Type 0
+PutsApplied f ts old new found = application_ground_grown f ts old ≡ (new, found)
+
 -- the terms after an atom and after literals
 abbrev pub ground_atom_grown : Patom → List Term → List Term
 ground_atom_grown (Patom.Pred p ts) terms = (application_ground_grown p.0 ts terms).0

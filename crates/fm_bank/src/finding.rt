@@ -1,7 +1,7 @@
 ghost use Rattle.std.specs.Prelude.{◌≡◌, slice_get, IfOk};
 ghost use Rattle.std.specs.Option.{option_map};
 ghost use Rattle.fm_bank.specs.Terms.{application, find, number_found, numbers};
-ghost use Rattle.fm_bank.specs.Instances.{application_number, equality_of, ground_atom, ground_literals, number_of, numbers_of, predicate_of};
+ghost use Rattle.fm_bank.specs.Instances.{AreNumbersOf, application_number, equality_of, ground_atom, ground_literals, number_of, predicate_of};
 
 use crate::atom::Atom;
 use crate::clause::Plit;
@@ -67,7 +67,7 @@ fn find_all(
     args: &[Pterm],
     subst: &[TermId],
 ) -> Result<Option<Args>, Memory>
-    ensures { IfOk result (λ o. numbers_of args.now terms.now.keys (numbers subst.now) ≡ option_map (λ ts. numbers ts.items) o) }
+    ensures { IfOk result (λ o. AreNumbersOf args.now terms.now.keys subst.now (option_map (λ ts. numbers ts.items) o)) }
 {
     let mut ids = SmallVec::new(alloc);
     for arg in args {

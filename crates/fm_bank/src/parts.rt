@@ -2,7 +2,7 @@ ghost use Rattle.std.specs.Prelude.{◌≡◌, IfOk, OnOk, OnErr};
 ghost use Rattle.std.specs.Option.{option_map};
 ghost use Rattle.fm_bank.specs.Terms.{number_found, numbers};
 ghost use Rattle.fm_bank.specs.Interning.{IsBetween, IsUnderway};
-ghost use Rattle.fm_bank.specs.GroundTerms.{application_ground_grown, ground_atom_grown, ground_grown, ground_literals_grown, terms_ground_grown};
+ghost use Rattle.fm_bank.specs.GroundTerms.{PutsApplied, PutsTerms, application_ground_grown, ground_atom_grown, ground_grown, ground_literals_grown, terms_ground_grown};
 
 use crate::clause::Plit;
 use crate::growth::put;
@@ -35,7 +35,7 @@ fn put_application(
     symbol: SymId,
     args: &[Pterm],
 ) -> Result<Option<TermId>, Memory>
-    ensures ok { IfOk result (λ o. application_ground_grown symbol.0 args.now terms.old.keys ≡ (terms.new.keys, number_found o)) }
+    ensures ok { IfOk result (λ o. PutsApplied symbol.0 args.now terms.old.keys terms.new.keys (number_found o)) }
     ensures err { OnErr result (IsUnderway (application_ground_grown symbol.0 args.now) terms.old.keys terms.new.keys) }
 {
     match put_all(alloc, terms, args)? {
@@ -50,7 +50,7 @@ fn put_application(
 // The numbers of all, where none has variables. Those without are put in all the same.
 #[cycle(parts)]
 fn put_all(alloc: Global, terms: &mut IndexSet<Key>, args: &[Pterm]) -> Result<Option<Args>, Memory>
-    ensures ok { IfOk result (λ o. terms_ground_grown args.now terms.old.keys ≡ (terms.new.keys, option_map (λ ts. numbers ts.items) o)) }
+    ensures ok { IfOk result (λ o. PutsTerms args.now terms.old.keys terms.new.keys (option_map (λ ts. numbers ts.items) o)) }
     ensures err { OnErr result (IsUnderway (terms_ground_grown args.now) terms.old.keys terms.new.keys) }
 {
     let mut ids = SmallVec::new(alloc);

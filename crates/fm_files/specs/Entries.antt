@@ -172,3 +172,6 @@ EachGainsSource old new name bytes = (q : List ℕ) → GainsSource (old q) (new
 
 abbrev pub EachGainsSink : Entries → Entries → (List ℕ → Bool) → ℕ → Type 0
 EachGainsSink old new named room = (q : List ℕ) → GainsSink (old q) (new q) (named q) room
+
+abbrev pub OneGainsSink : Entries → Entries → List ℕ → ℕ → Type 0
+OneGainsSink old new name room = EachGainsSink old new (λ q. bytes_eq q name) room

@@ -1,8 +1,7 @@
 ghost use Rattle.std.specs.Prelude.{ℕ, List, string_bytes, IfOk, OnOk};
 ghost use Rattle.std.specs.BTreeMap.{get_by_text};
-ghost use Rattle.std.specs.Str.{bytes_eq};
 ghost use Rattle.fm_files.specs.Memory.{content_of, is_named};
-ghost use Rattle.fm_files.specs.Entries.{EachGainsSink, EachGainsSource, IsFresh};
+ghost use Rattle.fm_files.specs.Entries.{EachGainsSink, EachGainsSource, IsFresh, OneGainsSink};
 
 use crate::entry::Entry;
 use fm_base::Memory;
@@ -45,7 +44,7 @@ fn add_sink(
     name: String,
     room: usize,
 ) -> Result<(), Memory>
-    ensures { OnOk result (EachGainsSink (get_by_text entries.old) (get_by_text entries.new) (λ q. bytes_eq q (string_bytes name)) room) }
+    ensures { OnOk result (OneGainsSink (get_by_text entries.old) (get_by_text entries.new) (string_bytes name) room) }
 {
     match entries.get_mut(name.as_str()) {
         Some(entry) => entry.give_sink(alloc, room)?,

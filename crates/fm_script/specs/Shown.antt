@@ -1,5 +1,6 @@
 -- Commands as plain values: the place of the parenthesis, and the parts of the shape in order.
 use Rattle.std.specs.Prelude.{◌≡◌, ℕ, List, map, MatchOption, Option, Some, None}
+use Rattle.std.specs.Borrow.{Bor}
 use Rattle.std.specs.Option.{option_map}
 use Rattle.fm_base.specs.declared.refusal.Place.{Place}
 use Rattle.fm_sexp.specs.declared.items.Sexp.{Sexp}
@@ -40,6 +41,10 @@ name_shown p = record { bytes = p.bytes.now; at = p.at }
 
 abbrev pub numeral_shown : Number → Numeral
 numeral_shown n = record { value = n.value; at = n.at }
+
+-- a parameter, or a quantified variable: its name and its sort
+abbrev pub pair_shown : Part × Bor Sexp → Name × Sexp
+pair_shown p = (name_shown p.0, p.1.now)
 
 abbrev pub shown : Command → Shown
 shown (Command.SetLogic at name) = Shown.SetLogic at (name_shown name)

@@ -3,7 +3,7 @@ ghost use Rattle.std.specs.Option.{option_map};
 ghost use Rattle.fm_base.specs.declared.refusal.Fail.TheVariants as fail;
 ghost use Rattle.fm_sexp.specs.Items.{spans_within, all_within};
 ghost use Rattle.fm_script.specs.Commands.{bad_shape, unknown_command, too_wide, AreLevels, IsAnswer, command_of, list_command, by_head as by_head_of, by_later_head as by_later_head_of, set_logic_of, set_option_of, set_info_of, get_info_of, declare_sort_of, define_sort_of, declare_const_of, declare_fun_of, define_fun_of, assert_of, levels_of, push_of, pop_of, get_value_of, echo_of, alone as alone_of, parameter_of, parameters_of};
-ghost use Rattle.fm_script.specs.Shown.{IsShownBy, name_shown, shown};
+ghost use Rattle.fm_script.specs.Shown.{IsShownBy, name_shown, pair_shown, shown};
 ghost use Rattle.fm_script.specs.Within.{AreWithinBy, parts_within};
 
 use crate::command::{Command, Number, Part};
@@ -304,8 +304,8 @@ pub fn parameters<'a>(
     items: &'a [Sexp],
 ) -> Result<Option<Vec<(Part<'a>, &'a Sexp)>>, AllocError>
     requires { all_within (length text.now) items.now ≡ true }
-    ensures value { IfOk result (λ o. IsShownBy (parameters_of text.now items.now) (λ v. map (λ p. (name_shown p.0, p.1.now)) v.items) o) }
-    ensures within { IfOk result (λ o. AreWithinBy (length text.now) (λ v. map (λ p. (name_shown p.0, p.1.now)) v.items) o) }
+    ensures value { IfOk result (λ o. IsShownBy (parameters_of text.now items.now) (λ v. map pair_shown v.items) o) }
+    ensures within { IfOk result (λ o. AreWithinBy (length text.now) (λ v. map pair_shown v.items) o) }
 {
     let mut list = Vec::new(alloc);
     for item in items {
@@ -399,7 +399,8 @@ fn pop<'a>(text: &'a [u8], at: Place, parts: &[Sexp]) -> Result<Command<'a>, Fai
 // A command without parts.
 fn alone<'a>(at: Place, command: Command<'a>, parts: &[Sexp]) -> Result<Command<'a>, Fail>
     ensures answer { IsAnswer result (alone_of at (shown command.entry) parts.now) }
-    ensures within { (n : ℕ) → parts_within n (shown command.entry) ≡ true → IfOk result (λ c. parts_within n (shown c) ≡ true) }
+    ensures within { (n : ℕ) → parts_within n (shown command.entry) ≡ true →
+        IfOk result (λ c. parts_within n (shown c) ≡ true) }
 {
     if parts.is_empty() {
         Ok(command)

@@ -49,6 +49,7 @@ pub record IsLeastDeciding (m : Reading) (all : Bool) (vars : List SortId) (body
 abbrev pub GoesOn : Reading → List SortId → ℕ → List ℕ → List ℕ → Bool → Type 0
 GoesOn r sorts depth old new more = if_any more (tuple_of sorts depth new) ≡ next_of r sorts (tuple_of sorts depth old)
 
--- the least tuple that decides stands behind the `depth` variables in scope
-abbrev pub LeavesDeciding : Reading → Bool → List SortId → Formula → ℕ → List ℕ → List ℕ → Type 0
-LeavesDeciding m all vars body depth old new = IsLeastDeciding m all vars body (take depth old) (tuple_of vars depth new)
+-- where a tuple decided the block's truth, as one that fails a universal block does, the least that does stands behind the
+-- `depth` variables in scope
+abbrev pub LeavesDeciding : Reading → Bool → List SortId → Formula → ℕ → List ℕ → List ℕ → Bool → Type 0
+LeavesDeciding m all vars body depth old new holds = holds ≡ not all → IsLeastDeciding m all vars body (take depth old) (tuple_of vars depth new)

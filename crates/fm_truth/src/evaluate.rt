@@ -234,7 +234,7 @@ pub(crate) fn block_holds(
     requires vars { taken.vars + (length sorts.now + (room_of body.now).vars) ≤ length vars.old }
     requires args { taken.args + (room_of body.now).args ≤ length args.old }
     ensures value { result ≡ block_under (reading_of interp.now) (take taken.vars vars.old) all sorts.now body.now }
-    ensures least { result ≡ not all → LeavesDeciding (reading_of interp.now) all sorts.now body.now taken.vars vars.old vars.new }
+    ensures least { LeavesDeciding (reading_of interp.now) all sorts.now body.now taken.vars vars.old vars.new result }
     ensures same_vars { take taken.vars vars.new ≡ take taken.vars vars.old }
     ensures same_args { take taken.args args.new ≡ take taken.args args.old }
 {

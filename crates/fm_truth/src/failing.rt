@@ -31,7 +31,8 @@ pub fn first_failing(
 ) -> Result<Option<Falsity>, Memory>
     requires { (sig : TheSig) × (is_fit sig interp.now ≡ true) × (list_all (λ f. is_closed f sig) assertions.now ≡ true) }
     ensures none { IfOk result (λ o. IfNone o (All (λ f. truth f (reading_of interp.now) [] ≡ true) assertions.now)) }
-    ensures some { IfOk result (λ o. IfSome o (λ f. IsFirstFailing (reading_of interp.now) assertions.now f.assertion f.tuple)) }
+    ensures some { IfOk result (λ o. IfSome o (λ f.
+        IsFirstFailing (reading_of interp.now) assertions.now f.assertion f.tuple)) }
 {
     let mut env = Env::for_formulas(alloc, assertions)?;
     for (assertion, formula) in assertions.iter().enumerate() {
@@ -73,7 +74,8 @@ fn failing_tuple(
 
 // The variables and the body of a universal formula.
 fn universal(formula: &Formula) -> Option<(&[SortId], &Formula)>
-    ensures { MatchOption result (universal_of formula.now ≡ None) (λ o. universal_of formula.now ≡ Some (o.0.now, o.1.now)) }
+    ensures { MatchOption result (universal_of formula.now ≡ None)
+        (λ o. universal_of formula.now ≡ Some (o.0.now, o.1.now)) }
 {
     match formula {
         Formula::Quant { all, vars, body } if *all => Some((vars.as_slice(), body.get())),
