@@ -1,5 +1,5 @@
 -- The lists of first terms follow what is written of the classes.
-use Rattle.std.proofs.Common.{◌≡◌, ℕ, zero, suc, ◌+◌, ◌<◌, ◌≤◌, ◌&&◌, ◌⊎◌, Bool, true, false, cond, List, [], ◌∷◌, ◌++◌, length, take, drop, Option, Some, None, inl, inr, refl, sym, subst, ap, ◌∙◌, arith, get_or}
+use Rattle.std.proofs.Common.{◌≡◌, ℕ, zero, suc, ◌+◌, ◌<◌, ◌≤◌, ◌&&◌, ◌⊎◌, Bool, true, false, cond, List, [], ◌∷◌, length, drop, Option, Some, None, inl, inr, refl, sym, subst, ap, ◌∙◌, arith, get_or}
 use Rattle.std.specs.Prelude.{◌==◌, nat_lt, slice_get}
 use Rattle.std.specs.List.{Contains}
 use Rattle.std.proofs.lemmas.Bool.{cases_lt, eq-eqb, false_from_ne_true, ne_eqb}
@@ -9,12 +9,12 @@ use Rattle.fm_base.specs.declared.ids.SortId.{SortId}
 use Rattle.fm_base.specs.declared.ids.TermId.{TermId}
 use Rattle.fm_cells.specs.Fronts.{KeepsOthers, is_in}
 use Rattle.fm_cells.specs.Logs.{WereWritten}
-use Rattle.fm_cells.specs.Oldest.{AreNodes, AreRight, AreSeen, AreSeenRoots, IsReady, IsRight, IsRightBy, IsSeenPair, IsSeenRoot, KeepsRight, is_kind, kind_of, list_of, no_more}
+use Rattle.fm_cells.specs.Oldest.{AreNodes, AreSeen, AreSeenRoots, IsReady, IsRight, IsRightBy, IsSeenRoot, KeepsRight, is_kind, kind_of, list_of, no_more}
 use Rattle.fm_cells.specs.Rings.{alone, is_least, own_or, rank, root_or}
 use Rattle.fm_cells.specs.declared.oldest.Oldest.{Oldest}
 use Rattle.fm_cells.specs.declared.rings.Classes.{Classes}
 use Rattle.fm_cells.specs.declared.rings.Root.{Root}
-use Rattle.fm_cells.proofs.Listing.{kind_here, unlisted}
+use Rattle.fm_cells.proofs.Listing.{unlisted}
 
 pub kinds_same : (o new : Oldest) → new.kinds ≡ o.kinds → (n : ℕ) → kind_of new n ≡ kind_of o n
 kinds_same o new kinds n = ap (λ v. get_or v.items n None) kinds

@@ -2,6 +2,7 @@ pub mod Exchanging
 pub mod Following
 pub mod Hanging
 pub mod Heights
+pub mod Keying
 pub mod Listing
 pub mod Logging
 pub mod Members
@@ -10,5 +11,6 @@ pub mod Placing
 pub mod Pushing
 pub mod Relabeling
 pub mod Splicing
+pub mod Trimming
 pub mod Turning
 pub mod Ways

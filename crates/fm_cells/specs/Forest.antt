@@ -7,6 +7,16 @@ use Rattle.fm_cells.specs.declared.edge.Edge.{Edge}
 abbrev pub link_of : List (Option Edge) → ℕ → Option Edge
 link_of links x = slice_index_or links x None
 
+-- the links up to the last
+abbrev pub before_rest : Option Edge → List (Option Edge) → List (Option Edge)
+before_rest None [] = []
+before_rest None (y ∷ ys) = None ∷ y ∷ ys
+before_rest (Some l) ys = Some l ∷ ys
+
+abbrev pub trimmed : List (Option Edge) → List (Option Edge)
+trimmed [] = []
+trimmed (x ∷ xs) = before_rest x (trimmed xs)
+
 -- the way up from a node: the nodes on it that have a link, and the end of the tree
 abbrev pub IsUp : (ℕ → Option Edge) → ℕ → List ℕ → ℕ → Type 0
 IsUp link x [] top = (x ≡ top) × (link x ≡ None)

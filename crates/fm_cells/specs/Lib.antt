@@ -1,3 +1,4 @@
+pub mod Apart
 pub mod Forest
 pub mod Fronts
 pub mod Logs

@@ -12,7 +12,7 @@ use Rattle.fm_cong.specs.Faithful.{AreMarks, IsFaithful, held_in}
 use Rattle.fm_cong.specs.Graphs.{cells_of}
 use Rattle.fm_cong.specs.Growth.{AreBelow, AreFlags, HasMoreUses, HasPlace, SayTheSame, is_flagged}
 use Rattle.fm_cong.specs.Held.{HasArguments, Held, IsRegistered, IsSettled, Registers, is_registered}
-use Rattle.fm_cong.specs.Levels.{IsSteady, KeepsAll, KeepsMarks, cells_at, levels_of}
+use Rattle.fm_cong.specs.Levels.{IsSteady, KeepsAll, KeepsMarks, cells_at}
 use Rattle.fm_cong.specs.States.{count_of}
 use Rattle.fm_cong.specs.Tables.{AreUses, IsKnown, uses_at}
 use Rattle.fm_cong.specs.declared.egraph.Egraph.TheInside.{Inside}
@@ -109,10 +109,6 @@ faithful_room g h f members marks k same more =
       atoms = atoms_more (count_of g.state) (count_of h.state) g.state.facts.items h.state.facts.items k.nodes k.facts f.atoms;
       marks = subst (λ (ss : List Shape). AreMarks ss h.state h.marks.items) (sym members) (subst (λ (ms : List Mark). AreMarks g.members.items h.state ms) (sym marks) (marks_kept g.members.items g.state h.state g.marks.items k.marks f.marks));
     }
-
--- what is held then is as before
-pub held_room : (g h : Inside) → h.members.items ≡ g.members.items → h.types.items ≡ g.types.items → h.marks.items ≡ g.marks.items → h.state.facts.items ≡ g.state.facts.items → h.state.entered ≡ g.state.entered → held_in h ≡ held_in g
-held_room g h members types marks facts entered = λ i. record { shapes = members i; types = types i; facts = facts i; levels = levels_of (facts i) (marks i); entered = entered i }
 
 -- and once the term is registered, with its flag set
 pub faithful_added : (g h : Inside) (s : Shape) → IsFaithful g → h.members.items ≡ g.members.items ++ s ∷ [] → h.marks.items ≡ g.marks.items → IsSteady h.members.items (cells_of h.state) → h.state.waiting.items ≡ [] → h.state.entered ≤ length h.members.items → KeepsMarks g.state h.state → count_of h.state ≡ count_of g.state → h.state.facts.items ≡ g.state.facts.items → IsKnown (count_of g.state) s → AreUses (g.members.items ++ s ∷ []) h.uses.items → s.number < length g.flags.items → h.flags.items ≡ slice_set g.flags.items s.number true → IsFaithful h

@@ -2,14 +2,14 @@
 use Rattle.std.proofs.Common.{◌≡◌, ◌↔◌, ℕ, zero, suc, ◌<◌, ◌⊎◌, Bool, true, false, cond, List, [], ◌∷◌, length, Option, Some, None, inl, inr, refl, sym, subst, ap, ◌∙◌, arith, get_or}
 use Rattle.std.specs.Prelude.{◌==◌, IfSome, IfNone}
 use Rattle.std.specs.List.{All, Contains, cons_option}
-use Rattle.std.proofs.lemmas.Bool.{cases_Bool, eq-eqb, eqb-true, false≢true}
+use Rattle.std.proofs.lemmas.Bool.{cases_Bool, eq-eqb, eqb-true, false≢true, ne_eqb}
 use Rattle.std.proofs.lemmas.List.Elements.{All-contains, All-head, All-tail}
 use Rattle.fm_base.specs.declared.ids.AtomId.{AtomId}
 use Rattle.fm_base.specs.declared.ids.TermId.{TermId}
 use Rattle.fm_bank.specs.Closure.{no as the_no, object, yes as the_yes}
 use Rattle.fm_bank.specs.declared.atom.Atom.{Atom}
 use Rattle.fm_cells.specs.Rings.{own_or}
-use Rattle.fm_cong.specs.Clashes.{HasEqualSides, HasNoClash, HaveTwoTruths, IsClash, IsRead, clash_else, first_clash, first_equal, first_term, is_joined, term_by, term_else, term_read, two_truths}
+use Rattle.fm_cong.specs.Clashes.{AreHeld, HasEqualSides, HasNoClash, HaveTwoTruths, IsClash, IsRead, clash_else, first_clash, first_equal, first_term, is_joined, term_by, term_else, term_read, truths_by, two_truths}
 use Rattle.fm_cong.specs.Facts.{AreAtomsBelow, IsAtomBelow, joined_by, pairs_of, sides, unequal_by}
 use Rattle.fm_cong.specs.Held.{AreEqual, Held}
 use Rattle.fm_cong.specs.declared.clash.Clash.{Clash}
@@ -153,6 +153,22 @@ pub terms_below : (sign : Bool) (count : ℕ) (facts : List Fact) (o : Option Te
 terms_below sign count facts None e all = tt
 terms_below sign count facts (Some t) e all = term_below sign count facts t all (sym e)
 
+module _ (cells : List ℕ) (facts : List Fact) (holds : AreHeld cells facts) where
+  truth_of_term : (sign : Bool) (t : TermId) → first_term sign facts ≡ Some t → own_or cells (object t.0) ≡ own_or cells (truth_object sign)
+  truth_of_term sign t e =
+      let r = found_term sign facts t e in
+      held_by (λ p. own_or cells p.0 ≡ own_or cells p.1) facts holds r.fact r.read (object t.0, truth_object sign) (joins_truth sign r.fact.atom r.fact.lit.positive t r.term_is)
+
+  -- where yes and no are of two classes, so are a true and a false term
+  pub apart_truths : (own_or cells the_yes ≡ own_or cells the_no → ⊥) → truths_by cells facts ≡ None
+  apart_truths ne = go (first_term true facts) (first_term false facts) refl refl
+    where
+      go : (o r : Option TermId) → first_term true facts ≡ o → first_term false facts ≡ r → two_truths cells o r ≡ None
+      go None r e k = refl
+      go (Some p) None e k = refl
+      go (Some p) (Some q) e k =
+          ap (λ b. cond b (Some (Clash.Truth p q)) None) (ne_eqb (own_or cells (object p.0)) (own_or cells (object q.0)) (λ same. ne (sym (truth_of_term true p e) ∙ (same ∙ truth_of_term false q k))))
+
 module _ (g : Held) (cells : List ℕ) (exact : (x y : ℕ) → (own_or cells x ≡ own_or cells y) ↔ AreEqual g x y) (holds : All (λ (p : ℕ × ℕ). own_or cells p.0 ≡ own_or cells p.1) (pairs_of g.facts)) where
   with_truth : (sign : Bool) (t : TermId) → IsTermRead sign g.facts t → own_or cells (object t.0) ≡ own_or cells (truth_object sign)
   with_truth sign t r = held_by (λ p. own_or cells p.0 ≡ own_or cells p.1) g.facts holds r.fact r.read (object t.0, truth_object sign) (joins_truth sign r.fact.atom r.fact.lit.positive t r.term_is)
@@ -208,4 +224,4 @@ module _ (g : Held) (cells : List ℕ) (exact : (x y : ℕ) → (own_or cells x 
   either None (Some c) e h = record { some = h.0; none = tt }
 
   pub clash_told : (o : Option Clash) → o ≡ first_clash cells g.facts → ClashTold o
-  clash_told o e = subst ClashTold (sym e) (either (first_equal cells g.facts) (two_truths cells (first_term true g.facts) (first_term false g.facts)) refl (truths (first_term true g.facts) (first_term false g.facts) refl refl))
+  clash_told o e = subst ClashTold (sym e) (either (first_equal cells g.facts) (truths_by cells g.facts) refl (truths (first_term true g.facts) (first_term false g.facts) refl refl))

@@ -5,6 +5,7 @@ use Rattle.std.proofs.lemmas.List.Elements.{All-push, All-weaker}
 use Rattle.fm_bank.specs.Closure.{Shape}
 use Rattle.fm_bank.specs.declared.atom.Atom.{Atom}
 use Rattle.fm_base.specs.declared.ids.AtomId.{AtomId}
+use Rattle.fm_cells.specs.Forest.{trimmed}
 use Rattle.fm_cong.specs.Facts.{AreAtomsBelow, IsAtomBelow}
 use Rattle.fm_cong.specs.Faithful.{IsFaithful, IsSound, held_in}
 use Rattle.fm_cong.specs.Graphs.{cells_of}
@@ -64,13 +65,13 @@ module _ (g : Inside) (f : IsFaithful g) where
     complete_in e = record { steady = f.steady; all = subst (λ (k : Held). k.entered ≡ length k.shapes) (sym view) e }
 
     abbrev held_with : State → Held
-    held_with t = record { shapes = g.members.items; types = g.types.items; facts = t.facts.items; levels = levels_of t.facts.items g.marks.items; entered = t.entered }
+    held_with t = record { shapes = g.members.items; types = g.types.items; facts = t.facts.items; levels = levels_of t.facts.items g.marks.items; entered = t.entered; links = trimmed t.links.cells.items }
 
     -- a literal more is read
-    pub read_held : (t : State) (atom : AtomId) (positive : Bool) (a : Atom) (fact : Fact) → t.facts.items ≡ g.state.facts.items ++ fact ∷ [] → t.entered ≡ g.state.entered → fact.lit ≡ record { atom = atom; positive = positive } → fact.atom ≡ a → held_with t ≡ with_fact h (record { lit = record { atom = atom; positive = positive }; atom = a })
+    pub read_held : (t : State) (atom : AtomId) (positive : Bool) (a : Atom) (fact : Fact) → t.facts.items ≡ g.state.facts.items ++ fact ∷ [] → t.entered ≡ g.state.entered → fact.lit ≡ record { atom = atom; positive = positive } → fact.atom ≡ a → held_with t ≡ with_fact h (record { lit = record { atom = atom; positive = positive }; atom = a }) (trimmed t.links.cells.items)
     read_held t atom positive a fact facts entered lit is_a =
         let new : Fact = record { lit = record { atom = atom; positive = positive }; atom = a } in
         let read : t.facts.items ≡ g.state.facts.items ++ new ∷ [] = facts ∙ (λ i. g.state.facts.items ++ (record { lit = lit i; atom = is_a i }) ∷ []) in
         let levels : levels_of t.facts.items g.marks.items ≡ levels_of g.state.facts.items g.marks.items = ap (λ (fs : List Fact). levels_of fs g.marks.items) read ∙ levels_grown g.members.items g.state (new ∷ []) g.marks.items f.marks.kept in
-        let made : held_with t ≡ with_fact (held_in g) new = λ i. record { shapes = g.members.items; types = g.types.items; facts = read i; levels = levels i; entered = entered i } in
-        made ∙ ap (λ (k : Held). with_fact k new) view
+        let made : held_with t ≡ with_fact (held_in g) new (trimmed t.links.cells.items) = λ i. record { shapes = g.members.items; types = g.types.items; facts = read i; levels = levels i; entered = entered i; links = trimmed t.links.cells.items } in
+        made ∙ ap (λ (k : Held). with_fact k new (trimmed t.links.cells.items)) view

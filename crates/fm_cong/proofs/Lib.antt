@@ -13,11 +13,14 @@ pub mod Merging
 pub mod Noting
 pub mod Nothing
 pub mod Noticing
+pub mod Parting
 pub mod Reading
 pub mod Registering
+pub mod Rooms
 pub mod Running
 pub mod Stacking
 pub mod Tabled
+pub mod Tracing
 pub mod Tracking
 pub mod Walks
 pub mod Whole

@@ -3,9 +3,10 @@ use Rattle.std.proofs.Common.{◌≡◌, ℕ, zero, suc, ◌≤◌, List, [], �
 use Rattle.std.proofs.lemmas.List.{length-take-le}
 use Rattle.fm_bank.specs.Closure.{Shape}
 use Rattle.fm_cells.specs.Logs.{HasLogged, restored}
+use Rattle.fm_cells.specs.Rings.{own_or}
 use Rattle.fm_cells.proofs.Logging.{logged_more, logged_none, restored_more}
-use Rattle.fm_cong.specs.Graphs.{Extends, cells_of}
-use Rattle.fm_cong.specs.Levels.{IsAfter, IsBefore, IsInside, IsKept, IsMarkOf, IsRewound, IsSteady, cells_at}
+use Rattle.fm_cong.specs.Graphs.{Cells, Extends, cells_of}
+use Rattle.fm_cong.specs.Levels.{IsAfter, IsBefore, IsInside, IsKept, IsMarkOf, IsRewound, IsSteady, KeepsClasses, RestoresClasses, cells_at}
 use Rattle.fm_cong.specs.States.{count_of}
 use Rattle.fm_cong.specs.Tables.{HasGrown}
 use Rattle.fm_cong.specs.declared.mark.Mark.{Mark}
@@ -53,7 +54,7 @@ take_whole (suc n) [] e = refl
 take_whole (suc n) (x ∷ xs) e = ap (λ ys. x ∷ ys) (take_whole n xs (omega (arith, e)))
 
 -- later writes leave what stood at a mark
-later : {X : Type 0} → (n : ℕ) (a : List (ℕ × X)) (x : List X) (b : List (ℕ × X)) (y : List X) → n ≤ length a → HasLogged a x b y → restored (drop n b) y ≡ restored (drop n a) x
+pub later : {X : Type 0} → (n : ℕ) (a : List (ℕ × X)) (x : List X) (b : List (ℕ × X)) (y : List X) → n ≤ length a → HasLogged a x b y → restored (drop n b) y ≡ restored (drop n a) x
 later n a x b y le h = ap (λ log. restored (drop n log) y) h.grown ∙ (ap (λ log. restored log y) (drop_append n a h.tail le) ∙ (restored_more (drop n a) h.tail y ∙ ap (restored (drop n a)) h.back))
 
 -- a rewind leaves what stood at an earlier mark
@@ -66,7 +67,7 @@ logged_longer a x b y n h le = omega (arith, le, ap length h.grown, length-appen
 grown_longer : {X : Type 0} → (a b : List X) (n : ℕ) → HasGrown a b → n ≤ length a → n ≤ length b
 grown_longer a b n h le = omega (arith, le, ap length h.1, length-append a h.0)
 
-take_grown : {X : Type 0} → (n : ℕ) (a b : List X) → n ≤ length a → HasGrown a b → take n b ≡ take n a
+pub take_grown : {X : Type 0} → (n : ℕ) (a b : List X) → n ≤ length a → HasGrown a b → take n b ≡ take n a
 take_grown n a b le h = ap (take n) h.1 ∙ take_append n a h.0 le
 
 pub inside_after : (old new : State) (m : Mark) → IsAfter old new → IsInside old m → IsInside new m
@@ -175,3 +176,19 @@ count_rewound s m new h r = ap length r.class ∙ restored_length (drop m.class 
 
 pub count_back : (old part new : State) (m : Mark) → IsMarkOf old m → IsAfter old part → IsRewound part m new → count_of new ≡ count_of old
 count_back old part new m e a r = count_rewound part m new (inside_after old part m a (inside_now old m e)) r ∙ count_after old part a
+
+-- the class of each node at a mark
+
+pub classes_after : (old new : State) → IsAfter old new → KeepsClasses old new
+classes_after old new a m h = ap (λ (c : Cells). own_or c.class) (at_after old new m a h)
+
+pub classes_back : (old part new : State) (mark : Mark) → IsMarkOf old mark → IsAfter old part → IsRewound part mark new → KeepsClasses old new
+classes_back old part new mark e a r m h =
+    let back = at_rewound part mark new m (inside_after old part mark a (inside_now old mark e)) r (before_now old mark m e h) in
+    ap (λ (c : Cells). own_or c.class) (back ∙ at_after old part m a h)
+
+pub classes_restored : (s : State) (mark : Mark) (new : State) → IsInside s mark → IsRewound s mark new → RestoresClasses s mark new
+classes_restored s mark new h r = record {
+  now = ap (λ (c : Cells). own_or c.class) (cells_rewound s mark new h r);
+  before = λ m b. ap (λ (c : Cells). own_or c.class) (at_rewound s mark new m h r b);
+}

@@ -9,12 +9,12 @@ use Rattle.fm_cong.specs.declared.mark.Mark.{Mark}
 abbrev pub AreOrdered : List Mark → Type 0
 AreOrdered marks = (i j : ℕ) (d : Mark) → i ≤ j → j < length marks → IsBefore (get_or marks i d) (get_or marks j d)
 
-push_old : (xs : List Mark) (x : Mark) (k : ℕ) (d : Mark) → k < length xs → get_or (xs ++ x ∷ []) k d ≡ get_or xs k d
+pub push_old : {X : Type 0} → (xs : List X) (x : X) (k : ℕ) (d : X) → k < length xs → get_or (xs ++ x ∷ []) k d ≡ get_or xs k d
 push_old [] x k d lt = absurd (omega (arith, lt))
 push_old (y ∷ xs) x zero d lt = refl
 push_old (y ∷ xs) x (suc k) d lt = push_old xs x k d (omega (arith, lt))
 
-push_new : (xs : List Mark) (x : Mark) (k : ℕ) (d : Mark) → k ≡ length xs → get_or (xs ++ x ∷ []) k d ≡ x
+pub push_new : {X : Type 0} → (xs : List X) (x : X) (k : ℕ) (d : X) → k ≡ length xs → get_or (xs ++ x ∷ []) k d ≡ x
 push_new [] x zero d e = refl
 push_new [] x (suc k) d e = absurd (omega (arith, e))
 push_new (y ∷ xs) x zero d e = absurd (omega (arith, e))
@@ -39,7 +39,7 @@ ordered_push marks m o all i j d le lt =
           ]
     ]
 
-bounds : (xs : List Mark) (n k : ℕ) → k < length (take n xs) → (k < n) × (k < length xs)
+pub bounds : {X : Type 0} → (xs : List X) (n k : ℕ) → k < length (take n xs) → (k < n) × (k < length xs)
 bounds [] zero k a = absurd (omega (arith, a))
 bounds [] (suc n) k a = absurd (omega (arith, a))
 bounds (x ∷ xs) zero k a = absurd (omega (arith, a))

@@ -1,11 +1,11 @@
 -- What a call has to show of the lists beside the state.
-use Rattle.std.proofs.Common.{◌≡◌, ℕ, zero, suc, ◌+◌, ◌<◌, ◌&&◌, true, false, cond, List, [], ◌∷◌, ◌++◌, length, map, take, drop, Option, Some, None, inl, inr, refl, sym, subst, ap, ◌∙◌, arith, append-nil, get_or, length-append}
+use Rattle.std.proofs.Common.{◌≡◌, ℕ, zero, suc, ◌+◌, ◌<◌, ◌&&◌, true, false, cond, List, [], ◌∷◌, ◌++◌, length, map, take, drop, Option, Some, None, inl, inr, refl, sym, subst, ap, ◌∙◌, arith, append-nil, get_or}
 use Rattle.std.specs.Prelude.{◌==◌, slice_get}
 use Rattle.std.specs.List.{All, Contains, cons_option}
 use Rattle.std.proofs.lemmas.Bool.{eq-eqb, false≢true, ne_eqb, or_cases, or_left, or_right}
 use Rattle.std.proofs.lemmas.Bool.Decides.{eqb_tells}
 use Rattle.std.proofs.Math.Seq.{take-append_seam}
-use Rattle.std.proofs.lemmas.List.{take-append-drop, take_more}
+use Rattle.std.proofs.lemmas.List.{take-append-drop}
 use Rattle.std.proofs.lemmas.List.Elements.{All-push, All-weaker, Contains-append_left, Contains-push, Contains-push_cases, filter_map-append}
 use Rattle.fm_base.specs.declared.ids.AtomId.{AtomId}
 use Rattle.fm_base.specs.declared.ids.Lit.{Lit}
@@ -20,15 +20,17 @@ use Rattle.fm_cells.specs.Rings.{is_least, own_or, root_or}
 use Rattle.fm_cells.specs.declared.oldest.Oldest.{Oldest}
 use Rattle.fm_cells.specs.declared.rings.Root.{Root}
 use Rattle.fm_cells.proofs.Following.{right_none}
-use Rattle.fm_cong.specs.Facts.{numbers_of_pair, unequal_by, unequal_of, unequal_sides}
+use Rattle.fm_cong.specs.Facts.{unequal_by, unequal_of, unequal_sides}
 use Rattle.fm_cong.specs.Faithful.{IsFaithful, IsWhole, held_in}
 use Rattle.fm_cong.specs.Graphs.{Cells, cells_of}
 use Rattle.fm_cong.specs.Held.{Held, IsReadable, IsRegistered, JoinsRegistered, is_registered}
-use Rattle.fm_cong.specs.Levels.{AreSameRoots}
+use Rattle.fm_cong.specs.Levels.{AreSameRoots, IsInside}
 use Rattle.fm_cong.specs.States.{HasNodes, class_in, root_in}
+use Rattle.fm_cong.specs.Tracked.{HasPairsOf, IsTracked}
 use Rattle.fm_cong.specs.Types.{AreSorts, HasNoted}
 use Rattle.fm_cong.specs.declared.egraph.Egraph.TheInside.{Inside}
 use Rattle.fm_cong.specs.declared.fact.Fact.{Fact}
+use Rattle.fm_cong.specs.declared.mark.Mark.{Mark}
 use Rattle.fm_cong.specs.declared.state.State.{State}
 use Rattle.fm_cong.proofs.Holding.{registered_node}
 
@@ -55,11 +57,16 @@ roots_err s t e = record { class = ap (λ (c : Cells). own_or c.class) e; root =
 pub right_same : (s t : State) (o o' : Oldest) → HasSameKinds o o' → SaysTheSame o o' → AreSameRoots s t → AreRight o (class_in s) (root_in s) → AreRight o' (class_in t) (root_in t)
 right_same s t o o' kinds lists roots h n k = ap (λ (xs : List TermId). is_in xs n) (lists k) ∙ (h n k ∙ sym (λ i. is_kind (kinds n i) k && is_least (roots.class i) (roots.root i) (n + 2)))
 
+-- each mark is within the logs
+pub insides_of : (g : Inside) → IsWhole g → (i : ℕ) (d : Mark) → i < length g.marks.items → IsInside g.state (get_or g.marks.items i d)
+insides_of g w i d lt = (w.sound.marks.kept i d lt).inside
+
 -- nothing was read, registered or joined
-pub whole_room : (g h : Inside) → IsWhole g → IsFaithful h → h.members.items ≡ g.members.items → h.types.items ≡ g.types.items → h.pairs.items ≡ g.pairs.items → h.state.facts.items ≡ g.state.facts.items → HasSameKinds g.oldest h.oldest → SaysTheSame g.oldest h.oldest → IsReady h.oldest no_more → AreSameRoots g.state h.state → IsWhole h
-whole_room g h w sound members types pairs facts kinds lists ready roots = record {
+pub whole_room : (g h : Inside) → IsWhole g → IsFaithful h → h.members.items ≡ g.members.items → h.types.items ≡ g.types.items → HasPairsOf h.state.facts.items h.apart → IsTracked h.state h.apart h.marks.items h.cuts.items → h.state.facts.items ≡ g.state.facts.items → HasSameKinds g.oldest h.oldest → SaysTheSame g.oldest h.oldest → IsReady h.oldest no_more → AreSameRoots g.state h.state → IsWhole h
+whole_room g h w sound members types unequal tracked facts kinds lists ready roots = record {
   sound = sound;
-  unequal = ap (map numbers_of_pair) pairs ∙ (w.unequal ∙ sym (ap unequal_of facts));
+  unequal = unequal;
+  tracked = tracked;
   read = subst (λ (ss : List Shape). AreRead ss h.state.facts.items) (sym members) (subst (AreRead g.members.items) (sym facts) w.read);
   sorts = sorts_same g.members.items h.members.items g.types.items h.types.items g.oldest h.oldest members types kinds w.sorts;
   ready = ready;
@@ -68,11 +75,6 @@ whole_room g h w sound members types pairs facts kinds lists ready roots = recor
 
 pub unequal_read : (facts more : List Fact) (fact : Fact) → more ≡ facts ++ fact ∷ [] → unequal_of more ≡ unequal_of facts ++ cons_option (unequal_by fact) []
 unequal_read facts more fact e = ap unequal_of e ∙ filter_map-append unequal_by facts (fact ∷ [])
-
-pub unequal_upto : (facts : List Fact) (i : ℕ) (f : Fact) → i < length facts → f ≡ get_or facts i f → length (unequal_of (take (i + 1) facts)) ≡ length (unequal_of (take i facts)) + length (cons_option (unequal_by f) [])
-unequal_upto facts i f lt e =
-    let grown : take (i + 1) facts ≡ take i facts ++ f ∷ [] = take_more facts i f lt ∙ ap (λ (g : Fact). take i facts ++ g ∷ []) (sym e) in
-    ap length (unequal_read (take i facts) (take (i + 1) facts) f grown) ∙ length-append (unequal_of (take i facts)) (cons_option (unequal_by f) [])
 
 pub cut_unequal : (facts : List Fact) (from k : ℕ) → k ≡ length (unequal_of (take from facts)) → take k (unequal_of facts) ≡ unequal_of (take from facts)
 cut_unequal facts from k e =

@@ -4,10 +4,12 @@ use Rattle.std.specs.List.{All}
 use Rattle.std.proofs.lemmas.List.Elements.{All-drop}
 use Rattle.std.proofs.lemmas.List.{length_push}
 use Rattle.fm_bank.specs.Closure.{Shape}
+use Rattle.fm_cells.specs.Forest.{trimmed}
 use Rattle.fm_cells.specs.Logs.{AreOfCells, restored}
 use Rattle.fm_cells.specs.Rings.{alone, own_or, root_or}
 use Rattle.fm_cells.specs.Unions.{AreSameCells, AreSameLogs, HasNode}
 use Rattle.fm_cells.specs.declared.rings.Classes.{Classes}
+use Rattle.fm_cells.proofs.Trimming.{trimmed_push}
 use Rattle.fm_cells.proofs.Pushing.{own_push, root_push}
 use Rattle.fm_cong.specs.Graphs.{Cells, cells_of, pairs_of}
 use Rattle.fm_cong.specs.Levels.{IsInside, IsSteady, KeepsAll, cells_at}
@@ -60,10 +62,13 @@ module _ (s t : State) (logs : AreSameLogs s.classes t.classes) (links_log : t.l
     keeps_same = record {
       steady = λ shapes h. subst (IsSteady shapes) (sym same_now) h;
       marks = λ shapes m k. record { inside = inside_same m k.inside; steady = subst (IsSteady shapes) (sym (same_at m)) k.steady };
+      inside = inside_same;
+      classes = λ m h. ap (λ (c : Cells). own_or c.class) (same_at m);
       quiet = waiting;
       facts = facts;
       entered = entered;
       nodes = omega (arith, ap length same.class);
+      links = ap trimmed links;
       roots = λ shapes h. record { class = ap own_or same.class; root = ap root_or same.size };
     }
 
@@ -86,10 +91,13 @@ module _ (s t : State) (logs : AreSameLogs s.classes t.classes) (links_log : t.l
     keeps_node = record {
       steady = λ shapes h. subst (IsSteady shapes) (sym node_now) (steady_node shapes (cells_of s) h);
       marks = λ shapes m k. record { inside = inside_same m k.inside; steady = subst (IsSteady shapes) (sym (node_at m)) (steady_node shapes (cells_at s m) k.steady) };
+      inside = inside_same;
+      classes = λ m h. ap (λ (c : Cells). own_or c.class) (node_at m) ∙ own_push (cells_at s m).class (length (cells_at s m).class) refl;
       quiet = waiting;
       facts = facts;
       entered = entered;
       nodes = omega (arith, ap length node.class, length_push s.classes.class.cells.items (length s.classes.class.cells.items));
+      links = ap trimmed links ∙ trimmed_push s.links.cells.items;
       roots = λ shapes h. record {
         class = ap own_or node.class ∙ own_push s.classes.class.cells.items (length s.classes.class.cells.items) refl;
         root = ap root_or node.size ∙ root_push s.classes.size.cells.items (length s.classes.class.cells.items) (sym h.working.sizes);
@@ -97,16 +105,19 @@ module _ (s t : State) (logs : AreSameLogs s.classes t.classes) (links_log : t.l
     }
 
 pub keeps_none : (s : State) → KeepsAll s s
-keeps_none s = record { steady = λ shapes h. h; marks = λ shapes m k. k; quiet = refl; facts = refl; entered = refl; nodes = omega arith; roots = λ shapes h. record { class = refl; root = refl } }
+keeps_none s = record { steady = λ shapes h. h; marks = λ shapes m k. k; inside = λ m h. h; classes = λ m h. refl; quiet = refl; facts = refl; entered = refl; nodes = omega arith; links = refl; roots = λ shapes h. record { class = refl; root = refl } }
 
 pub keeps_more : (a b c : State) → KeepsAll a b → KeepsAll b c → KeepsAll a c
 keeps_more a b c p q = record {
   steady = λ shapes h. q.steady shapes (p.steady shapes h);
   marks = λ shapes m k. q.marks shapes m (p.marks shapes m k);
+  inside = λ m h. q.inside m (p.inside m h);
+  classes = λ m h. q.classes m (p.inside m h) ∙ p.classes m h;
   quiet = q.quiet ∙ p.quiet;
   facts = q.facts ∙ p.facts;
   entered = q.entered ∙ p.entered;
   nodes = omega (arith, p.nodes, q.nodes);
+  links = q.links ∙ p.links;
   roots = λ shapes h.
       let first = p.roots shapes h in
       let second = q.roots shapes (p.steady shapes h) in

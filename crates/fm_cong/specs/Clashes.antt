@@ -1,13 +1,13 @@
 -- Clashes: a false equality whose sides are equal, or a true and a false predicate term that are.
 use Rattle.std.specs.Prelude.{◌≡◌, ◌==◌, ℕ, Bool, true, false, if◌then◌else◌, List, [], ◌∷◌, Option, Some, None}
-use Rattle.std.specs.List.{Contains}
+use Rattle.std.specs.List.{All, Contains}
 use mathlib.Core.Bool.{beq}
 use Rattle.fm_base.specs.declared.ids.AtomId.{AtomId}
 use Rattle.fm_base.specs.declared.ids.TermId.{TermId}
 use Rattle.fm_bank.specs.Closure.{object}
 use Rattle.fm_bank.specs.declared.atom.Atom.{Atom}
 use Rattle.fm_cells.specs.Rings.{own_or}
-use Rattle.fm_cong.specs.Facts.{unequal_by}
+use Rattle.fm_cong.specs.Facts.{pairs_of, unequal_by}
 use Rattle.fm_cong.specs.Held.{AreEqual, Held}
 use Rattle.fm_cong.specs.declared.clash.Clash.{Clash}
 use Rattle.fm_cong.specs.declared.fact.Fact.{Fact}
@@ -73,9 +73,16 @@ two_truths cells None q = None
 two_truths cells (Some p) None = None
 two_truths cells (Some p) (Some q) = if own_or cells (object p.0) == own_or cells (object q.0) then Some (Clash.Truth p q) else None
 
+abbrev pub truths_by : List ℕ → List Fact → Option Clash
+truths_by cells facts = two_truths cells (first_term true facts) (first_term false facts)
+
+-- what the facts join is of one class
+abbrev pub AreHeld : List ℕ → List Fact → Type 0
+AreHeld cells facts = All (λ (p : ℕ × ℕ). own_or cells p.0 ≡ own_or cells p.1) (pairs_of facts)
+
 abbrev pub clash_else : Option AtomId → Option Clash → Option Clash
 clash_else None rest = rest
 clash_else (Some k) rest = Some (Clash.Facts k)
 
 abbrev pub first_clash : List ℕ → List Fact → Option Clash
-first_clash cells facts = clash_else (first_equal cells facts) (two_truths cells (first_term true facts) (first_term false facts))
+first_clash cells facts = clash_else (first_equal cells facts) (truths_by cells facts)

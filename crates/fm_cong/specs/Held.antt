@@ -2,22 +2,31 @@
 use Rattle.std.specs.Prelude.{◌≡◌, ◌↔◌, ℕ, ◌==◌, Bool, true, false, if◌then◌else◌, List, [], ◌∷◌, ◌++◌, length, slice_get, Option, None, Some}
 use Rattle.std.specs.List.{All, list_any}
 use Rattle.fm_bank.specs.Closure.{AreApart, Follows, Shape, no as the_no, object, shape_at, yes as the_yes}
-use Rattle.fm_bank.specs.Terms.{Term}
+use Rattle.fm_bank.specs.Terms.{Term, type_of}
 use Rattle.fm_bank.specs.declared.atom.Atom.{Atom}
 use Rattle.fm_base.specs.declared.ids.AtomId.{AtomId}
 use Rattle.fm_base.specs.declared.ids.TermId.{TermId}
+use Rattle.fm_base.specs.declared.signature.Sig.{Sig}
 use Rattle.fm_base.specs.declared.signature.Ty.{Ty}
+use Rattle.fm_cells.specs.Forest.{link_of}
+use Rattle.fm_cells.specs.declared.edge.Edge.{Edge}
 use Rattle.fm_cong.specs.Facts.{pairs_of, unequal_of}
 use Rattle.fm_cong.specs.declared.fact.Fact.{Fact}
 
--- the registered terms and their types, the facts read, what had been read as each open level was opened, and how many of
--- the registered terms are entered: those that came first
+-- the registered terms and their types, the facts read, what had been read as each open level was opened, how many of the
+-- registered terms are entered (those that came first), and the links of the
+-- explanation forest by node, up to the last
 pub record Held : Type 0 where
   pub shapes : List Shape
   pub types : List (TermId × Ty)
   pub facts : List Fact
   pub levels : List (List Fact)
   pub entered : ℕ
+  pub links : List (Option Edge)
+
+-- the link of a node
+abbrev pub link_held : Held → ℕ → Option Edge
+link_held g = link_of g.links
 
 -- the same terms are registered
 pub record HasSameTerms (old new : Held) : Type 0 where
@@ -25,24 +34,24 @@ pub record HasSameTerms (old new : Held) : Type 0 where
   pub types : new.types ≡ old.types
 
 abbrev pub nothing : Held
-nothing = record { shapes = []; types = []; facts = []; levels = []; entered = 0 }
+nothing = record { shapes = []; types = []; facts = []; levels = []; entered = 0; links = [] }
 
 -- all registered terms are entered, so the classes are those of the closure
 abbrev pub IsSettled : Held → Type 0
 IsSettled g = g.entered ≡ length g.shapes
 
--- the same, once all registered terms are entered
-abbrev pub all_entered : Held → Held
-all_entered g = record { shapes = g.shapes; types = g.types; facts = g.facts; levels = g.levels; entered = length g.shapes }
+-- the same, once all registered terms are entered, under these links
+abbrev pub all_entered : Held → List (Option Edge) → Held
+all_entered g links = record { shapes = g.shapes; types = g.types; facts = g.facts; levels = g.levels; entered = length g.shapes; links = links }
 
--- once one more literal is read
-abbrev pub with_fact : Held → Fact → Held
-with_fact g f = record { shapes = g.shapes; types = g.types; facts = g.facts ++ f ∷ []; levels = g.levels; entered = g.entered }
+-- once one more literal is read, under these links
+abbrev pub with_fact : Held → Fact → List (Option Edge) → Held
+with_fact g f links = record { shapes = g.shapes; types = g.types; facts = g.facts ++ f ∷ []; levels = g.levels; entered = g.entered; links = links }
 
 -- the literal on an atom of a bank is read
 abbrev pub ReadsLiteral : Held → Held → List Atom → AtomId → Bool → Type 0
 ReadsLiteral old new atoms atom positive =
-    (a : Atom) → slice_get atoms atom.0 ≡ Some a → new ≡ with_fact old (record { lit = record { atom = atom; positive = positive }; atom = a })
+    (a : Atom) → slice_get atoms atom.0 ≡ Some a → new ≡ with_fact old (record { lit = record { atom = atom; positive = positive }; atom = a }) new.links
 
 -- the term of this number is registered
 abbrev pub is_registered : List Shape → ℕ → Bool
@@ -63,6 +72,10 @@ with_term shapes terms n = if is_registered shapes n then shapes else shapes ++ 
 -- the types once a term of a bank is registered
 abbrev pub with_type : List Shape → List (TermId × Ty) → ℕ → Option Ty → List (TermId × Ty)
 with_type shapes types n ty = if is_registered shapes n then types else types ++ typed_as n ty
+
+-- its type is that of the bank
+abbrev pub NotesType : Held → Held → Sig → List Term → ℕ → Type 0
+NotesType old new sig terms n = new.types ≡ with_type old.shapes old.types n (type_of sig terms n)
 
 -- a term of a bank is registered; where all terms were entered, this one is too
 pub record Registers (old new : Held) (terms : List Term) (n : ℕ) : Type 0 where

@@ -2,6 +2,7 @@
 use Rattle.std.specs.Prelude.{◌≡◌, ℕ, ◌≤◌, List, [], length, map, take, drop}
 use Rattle.std.specs.List.{All}
 use Rattle.fm_bank.specs.Closure.{Shape}
+use Rattle.fm_cells.specs.Forest.{trimmed}
 use Rattle.fm_cells.specs.Logs.{HasLogged, WereWritten, restored}
 use Rattle.fm_cells.specs.Rings.{own_or, root_or}
 use Rattle.fm_cong.specs.Graphs.{Cells, IsWorking, cells_of, pairs_of}
@@ -32,6 +33,10 @@ cells_at s m = record {
   entered = m.entered;
   time = m.links;
 }
+
+-- the class of each node as it was at a mark
+abbrev pub class_at : State → Mark → ℕ → ℕ
+class_at s m = own_or (cells_at s m).class
 
 pub record IsInside (s : State) (m : Mark) : Type 0 where
   pub class : m.class ≤ length s.classes.class.log.items
@@ -126,6 +131,15 @@ pub record LogsClasses (old new : State) : Type 0 where
   pub class : HasLogged old.classes.class.log.items old.classes.class.cells.items new.classes.class.log.items new.classes.class.cells.items
   pub size : HasLogged old.classes.size.log.items old.classes.size.cells.items new.classes.size.log.items new.classes.size.cells.items
 
+-- each node's class at each mark stays
+abbrev pub KeepsClasses : State → State → Type 0
+KeepsClasses old new = (m : Mark) → IsInside old m → class_at new m ≡ class_at old m
+
+-- the classes are those at a mark, and those at each mark that isn't later stay
+pub record RestoresClasses (old : State) (mark : Mark) (new : State) : Type 0 where
+  pub now : own_or new.classes.class.cells.items ≡ class_at old mark
+  pub before : (m : Mark) → IsBefore m mark → class_at new m ≡ class_at old m
+
 -- each mark is kept
 abbrev pub KeepsMarks : State → State → Type 0
 KeepsMarks old new = (shapes : List Shape) (m : Mark) → IsKept shapes old m → IsKept shapes new m
@@ -141,15 +155,26 @@ KeepsSteady old new = (shapes : List Shape) → IsSteady shapes (cells_of old) �
 abbrev pub KeepsRoots : State → State → Type 0
 KeepsRoots old new = (shapes : List Shape) → IsSteady shapes (cells_of old) → AreSameRoots old new
 
+-- the link of each node stays
+abbrev pub KeepsLinks : State → State → Type 0
+KeepsLinks old new = trimmed new.links.cells.items ≡ trimmed old.links.cells.items
+
 -- nodes may be added, and nothing else has changed
 pub record KeepsAll (old new : State) : Type 0 where
   pub steady : KeepsSteady old new
   pub marks : KeepsMarks old new
+  pub inside : (m : Mark) → IsInside old m → IsInside new m
+  pub classes : KeepsClasses old new
   pub quiet : new.waiting.items ≡ old.waiting.items
   pub facts : new.facts.items ≡ old.facts.items
   pub entered : new.entered ≡ old.entered
   pub nodes : length old.classes.class.cells.items ≤ length new.classes.class.cells.items
+  pub links : KeepsLinks old new
   pub roots : KeepsRoots old new
+
+-- where all terms were entered, all are
+abbrev pub StaysSettled : State → List Shape → State → List Shape → Type 0
+StaysSettled old shapes new more = old.entered ≡ length shapes → new.entered ≡ length more
 
 -- the facts at each mark
 abbrev pub levels_of : List Fact → List Mark → List (List Fact)
@@ -162,3 +187,4 @@ pub record IsNothing (s : State) : Type 0 where
   pub facts : s.facts.items ≡ []
   pub entered : s.entered ≡ 0
   pub objects : 2 ≤ length s.classes.class.cells.items
+  pub links : trimmed s.links.cells.items ≡ []

@@ -10,4 +10,6 @@ pub mod Links
 pub mod Paths
 pub mod States
 pub mod Tables
+pub mod Tests
+pub mod Tracked
 pub mod Types

@@ -1,16 +1,17 @@
 ghost use Rattle.std.specs.Prelude.{◌≡◌, ◌<◌, ◌≤◌, ◌++◌, ◌∷◌, [], length, OnOk, OnErr};
 ghost use Rattle.fm_cong.specs.Graphs.{cells_of};
 ghost use Rattle.fm_cong.specs.Growth.{AreBelow, HasMoreUses, HasPlace, SayTheSame};
-ghost use Rattle.fm_cong.specs.Levels.{AreSameRoots, IsSteady, KeepsAll, KeepsMarks, LogsClasses};
-ghost use Rattle.fm_cong.specs.States.{count_of};
+ghost use Rattle.fm_cong.specs.Levels.{AreSameRoots, IsSteady, KeepsAll, KeepsClasses, KeepsLinks, KeepsMarks, LogsClasses, StaysSettled};
+ghost use Rattle.fm_cong.specs.States.{KeepsJoined, count_of};
 ghost use Rattle.fm_cong.specs.Tables.{AreUses, IsKnown};
 
 use crate::levels::settle;
-use crate::member::{Member, Uses};
+use crate::member::Member;
 use crate::nodes::reach_node;
 use crate::registry::{note_uses, reach_flag};
 use crate::state::State;
 use fm_base::Memory;
+use fm_cells::Places;
 use std::alloc::Global;
 
 // Makes the nodes, the flag and the places that a term needs before it is registered.
@@ -18,7 +19,7 @@ pub(crate) fn make_room(
     alloc: Global,
     state: &mut State,
     flags: &mut Vec<bool>,
-    uses: &mut Vec<Uses>,
+    uses: &mut Vec<Places>,
     member: &Member,
     place: usize,
 ) -> Result<(), Memory>
@@ -46,7 +47,7 @@ pub(crate) fn put_member(
     alloc: Global,
     state: &mut State,
     members: &mut Vec<Member>,
-    uses: &[Uses],
+    uses: &[Places],
     member: Member,
 ) -> Result<(), Memory>
     requires steady { IsSteady members.old.items (cells_of state.old) }
@@ -59,13 +60,16 @@ pub(crate) fn put_member(
     ensures steady { IsSteady members.new.items (cells_of state.new) }
     ensures quiet { state.new.waiting.items ≡ [] }
     ensures entered { state.new.entered ≤ length members.new.items }
-    ensures settled { OnOk result (state.old.entered ≡ length members.old.items → state.new.entered ≡ length members.new.items) }
+    ensures settled { OnOk result (StaysSettled state.old members.old.items state.new members.new.items) }
     ensures stays { OnErr result (state.new.entered ≡ state.old.entered) }
     ensures facts { state.new.facts.items ≡ state.old.facts.items }
     ensures kept { KeepsMarks state.old state.new }
     ensures nodes { count_of state.new ≡ count_of state.old }
     ensures logged { OnOk result (LogsClasses state.old state.new) }
+    ensures coarser { OnOk result (KeepsJoined state.old state.new) }
+    ensures classes { KeepsClasses state.old state.new }
     ensures roots { OnErr result (AreSameRoots state.old state.new) }
+    ensures links { OnErr result (KeepsLinks state.old state.new) }
 {
     let before = members.len();
     members.push(member)?;

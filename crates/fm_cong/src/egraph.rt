@@ -1,33 +1,34 @@
-ghost use Rattle.std.specs.Prelude.{◌≡◌, ◌<◌, ◌↔◌, ◌++◌, ◌∷◌, [], List, IsTrue, length, map, slice_get, take, false, true, Some, IfNone, IfOk, IfSome, OnOk, OnErr};
+ghost use Rattle.std.specs.Prelude.{◌≡◌, ◌<◌, ◌↔◌, ◌++◌, ◌∷◌, [], List, IsTrue, length, map, option_map, slice_get, take, false, true, Some, IfNone, IfOk, IfSome, OnOk, OnErr};
 ghost use Rattle.fm_bank.specs.Closure.{object};
 ghost use Rattle.fm_cong.specs.Held.{AreEqual, AreUnequal, HasArguments, IsReadable, IsRegistered, IsSettled, IsTruth};
 ghost use Rattle.fm_cong.specs.Clashes.{HasNoClash, IsClash};
 ghost use Rattle.fm_cong.specs.Explained.{IsExplained};
-ghost use Rattle.fm_cong.specs.Links.{IsKnownNode, IsLinkOf};
 ghost use Rattle.fm_cong.specs.Held.{HasSameTerms, ReadsLiteral, Registers};
-ghost use Rattle.fm_cong.specs.Held.{all_entered, is_registered, nothing, with_type};
+ghost use Rattle.fm_cong.specs.Held.{NotesType, all_entered, is_registered, link_held, nothing};
 ghost use Rattle.fm_cong.specs.Facts.{numbers_of_pair, unequal_of};
+ghost use Rattle.fm_cong.specs.Links.{edge_of, node_of};
+ghost use Rattle.fm_cong.specs.Tests.{HasTests};
 ghost use Rattle.fm_cong.specs.Types.{AreOldest};
-ghost use Rattle.fm_bank.specs.Terms.{type_of};
 ghost use Rattle.fm_cong.specs.declared.fact.Fact.{Fact as TheFact};
 
 use crate::additions::{make_room, put_member};
 use crate::clash::Clash;
 use crate::finding::clash_of;
 use crate::levels::{are_same, mark_of, settle, undo};
-use crate::link::{Link, Node, link_at};
+use crate::link::{Link, Node, link_in};
 use crate::literals::{fact_of, read_literal};
 use crate::mark::Mark;
-use crate::member::{Member, Uses};
+use crate::member::Member;
 use crate::nodes::empty_state;
-use crate::pairs::{cut_pairs, note_pair};
+use crate::pairs::note_pair;
 use crate::queries::{is_apart, truth_of};
 use crate::registry::{has_flag, member_of};
 use crate::state::State;
+use crate::track::{put_cut, track};
 use crate::types::{announce_type, note_type};
 use fm_bank::Bank;
 use fm_base::{AtomId, Memory, SortId, TermId, Ty, Undo};
-use fm_cells::{Edge, Oldest};
+use fm_cells::{Apart, Cut, Edge, Oldest, Places};
 use std::alloc::Global;
 use std::marker::Model;
 
@@ -41,11 +42,12 @@ pub struct Egraph {
     members: Vec<Member>,
     types: Vec<(TermId, Ty)>,
     flags: Vec<bool>,
-    uses: Vec<Uses>,
+    uses: Vec<Places>,
     state: State,
-    pairs: Vec<(TermId, TermId)>,
+    apart: Apart,
     oldest: Oldest,
     marks: Vec<Mark>,
+    cuts: Vec<Cut>,
 }
 
 impl Model for Egraph {
@@ -73,9 +75,10 @@ impl Egraph {
             flags: Vec::new(alloc),
             uses: Vec::new(alloc),
             state,
-            pairs: Vec::new(alloc),
+            apart: Apart::new(alloc),
             oldest: Oldest::new(alloc),
             marks: Vec::new(alloc),
+            cuts: Vec::new(alloc),
         })
     }
 
@@ -85,7 +88,7 @@ impl Egraph {
         requires term { term.0 < length bank.now.terms }
         requires args { HasArguments self.old.shapes bank.now.terms term.0 }
         ensures registered { OnOk result (Registers self.old self.new bank.now.terms term.0) }
-        ensures types { OnOk result (self.new.types ≡ with_type self.old.shapes self.old.types term.0 (type_of bank.now.sig bank.now.terms term.0)) }
+        ensures types { OnOk result (NotesType self.old self.new bank.now.sig bank.now.terms term.0) }
         ensures err { OnErr result (self.new ≡ self.old) }
     {
         if has_flag(self.flags.as_slice(), term.0) {
@@ -113,8 +116,7 @@ impl Egraph {
         )?;
         self.flags[term.0] = true;
         note_type(&mut self.types, &mut self.oldest, term, ty);
-        self.oldest
-            .follow(&self.state.classes, from.class, from.size);
+        track(&self.state, &mut self.apart, &mut self.oldest, from);
         self.oldest.correct(&self.state.classes, term.0 + 2);
         Ok(())
     }
@@ -136,14 +138,13 @@ impl Egraph {
     /// Enters the terms that were registered late, and joins all that is congruent. Then two registered terms are of one
     /// class exactly where they are equal in the closure of the facts read over all registered terms.
     pub fn settle(&mut self, _bank: &Bank) -> Result<(), Memory>
-        ensures settled { OnOk result (self.new ≡ all_entered self.old) }
+        ensures settled { OnOk result (self.new ≡ all_entered self.old self.new.links) }
         ensures err { OnErr result (self.new ≡ self.old) }
     {
         let from = mark_of(&self.state);
         let members = self.members.as_slice();
         settle(self.alloc, &mut self.state, members, self.uses.as_slice())?;
-        self.oldest
-            .follow(&self.state.classes, from.class, from.size);
+        track(&self.state, &mut self.apart, &mut self.oldest, from);
         Ok(())
     }
 
@@ -164,8 +165,7 @@ impl Egraph {
             self.uses.as_slice(),
             fact,
         )?;
-        self.oldest
-            .follow(&self.state.classes, from.class, from.size);
+        track(&self.state, &mut self.apart, &mut self.oldest, from);
         Ok(())
     }
 
@@ -177,7 +177,7 @@ impl Egraph {
         ensures read { OnOk result (ReadsLiteral self.old self.new bank.now.atoms atom false) }
         ensures err { OnErr result (self.new ≡ self.old) }
     {
-        self.pairs.reserve(1)?;
+        self.apart.reserve()?;
         let fact = fact_of(bank, atom, false);
         let from = mark_of(&self.state);
         let members = self.members.as_slice();
@@ -188,9 +188,9 @@ impl Egraph {
             self.uses.as_slice(),
             fact,
         )?;
-        note_pair(&mut self.pairs, fact);
-        self.oldest
-            .follow(&self.state.classes, from.class, from.size);
+        track(&self.state, &mut self.apart, &mut self.oldest, from);
+        let class = &self.state.classes.class;
+        note_pair(self.alloc, &mut self.apart, class, fact);
         Ok(())
     }
 
@@ -199,7 +199,7 @@ impl Egraph {
     pub fn unequal_pairs(&self) -> &[(TermId, TermId)]
         ensures { map numbers_of_pair result.now ≡ unequal_of self.now.facts }
     {
-        self.pairs.as_slice()
+        self.apart.pairs.as_slice()
     }
 
     /// Whether two registered terms of a settled graph are equal in the closure of the facts read over all registered
@@ -221,7 +221,7 @@ impl Egraph {
         requires b { IsRegistered self.now.shapes b.0 }
         ensures { IsTrue result ↔ AreUnequal self.now a.0 b.0 }
     {
-        is_apart(&self.state, a.0 + 2, b.0 + 2)
+        is_apart(&self.state, &self.apart, a.0 + 2, b.0 + 2)
     }
 
     /// A clash of the literals that a settled graph has read: None exactly where there is none. It takes no memory.
@@ -230,7 +230,7 @@ impl Egraph {
         ensures some { IfSome result (IsClash self.now) }
         ensures none { IfNone result (HasNoClash self.now) }
     {
-        clash_of(&self.state)
+        clash_of(&self.state, &self.apart)
     }
 
     /// Whether a registered predicate term of a settled graph is true or false: true where the closure joins it with yes,
@@ -261,14 +261,21 @@ impl Egraph {
         self.state.links.cells.as_slice()
     }
 
-    /// The link of a node in the explanation forest of a settled graph, the one of `links`; None is the end of its tree. It
-    /// takes no memory.
+    /// The link of a node in the explanation forest, as `links` lends it; None where it is the end of its tree. It takes no
+    /// memory.
     pub fn link(&self, node: Node) -> Option<Link>
-        requires settled { IsSettled self.now }
-        requires node { IsKnownNode self.now node }
-        ensures link { IsLinkOf self.now node result }
+        ensures { option_map edge_of result ≡ link_held self.now (node_of node) }
     {
-        link_at(&self.state, node)
+        link_in(self.state.links.cells.as_slice(), node)
+    }
+
+    /// A settled graph has the two tests of what it holds: whether two nodes are equal, and whether two terms are apart. So
+    /// what is defined over such tests can be said of the graph. It does nothing.
+    pub fn has_tests(&self)
+        requires settled { IsSettled self.now }
+        ensures { HasTests self.now }
+    {
+        let _ = &self.state;
     }
 }
 
@@ -287,10 +294,13 @@ impl Undo for Egraph {
         ensures err { OnErr result (self.new.levels ≡ self.old.levels) }
         ensures terms { HasSameTerms self.old self.new }
         ensures entered { self.new.entered ≡ self.old.entered }
+        ensures links { self.new.links ≡ self.old.links }
     {
         let level = self.marks.len();
         let mark = mark_of(&self.state);
+        self.cuts.reserve(1)?;
         self.marks.push(mark)?;
+        put_cut(&mut self.cuts, self.apart.cut());
         Ok(level)
     }
 
@@ -302,13 +312,15 @@ impl Undo for Egraph {
         ensures terms { HasSameTerms self.old self.new }
     {
         let mark = self.marks[level];
-        cut_pairs(&mut self.pairs, &self.state.facts, mark.facts);
+        let cut = self.cuts[level];
         undo(
             &mut self.state,
             &mut self.oldest,
             self.members.as_slice(),
             mark,
         );
+        self.apart.rewind(cut);
         self.marks.truncate(level);
+        self.cuts.truncate(level);
     }
 }

@@ -1,8 +1,10 @@
-ghost use Rattle.std.specs.Prelude.{◌≡◌, ◌<◌, length, IfSome};
+ghost use Rattle.std.specs.Prelude.{◌≡◌, ◌<◌, ◌≤◌, length, IfSome};
 ghost use Rattle.fm_bank.specs.Closure.{object};
-ghost use Rattle.fm_cong.specs.Clashes.{first_clash, first_equal, first_term, is_joined, term_read, two_truths};
+ghost use Rattle.fm_cells.specs.Apart.{IsIndexed};
+ghost use Rattle.fm_cong.specs.Clashes.{AreHeld, first_clash, first_equal, first_term, is_joined, term_read, truths_by, two_truths};
 ghost use Rattle.fm_cong.specs.Facts.{AreAtomsBelow, IsAtomBelow, unequal_by};
-ghost use Rattle.fm_cong.specs.States.{count_of};
+ghost use Rattle.fm_cong.specs.States.{class_in, count_of};
+ghost use Rattle.fm_cong.specs.Tracked.{HasPairsOf};
 
 use crate::clash::Clash;
 use crate::fact::Fact;
@@ -10,7 +12,7 @@ use crate::queries::unequal_sides;
 use crate::state::State;
 use fm_bank::Atom;
 use fm_base::{AtomId, TermId};
-use fm_cells::Logged;
+use fm_cells::{Apart, Logged};
 
 // Whether a literal is a false equality whose sides are of one class.
 fn has_equal_sides(class: &Logged<usize>, fact: Fact) -> bool
@@ -88,15 +90,46 @@ fn truths_clash(
     }
 }
 
-// A clash of the literals read, if there is one.
-pub(crate) fn clash_of(state: &State) -> Option<Clash>
+// A clash of the predicate terms read: there is none where yes and no are of two classes.
+fn truths_clash_of(state: &State) -> Option<Clash>
     requires atoms { AreAtomsBelow (count_of state.now) state.now.facts.items }
-    ensures { result ≡ first_clash state.now.classes.class.cells.items state.now.facts.items }
+    requires holds { AreHeld state.now.classes.class.cells.items state.now.facts.items }
+    requires objects { 2 ≤ count_of state.now }
+    ensures { result ≡ truths_by state.now.classes.class.cells.items state.now.facts.items }
 {
     let class = &state.classes.class;
+    if class.get(0) != class.get(1) {
+        return None;
+    }
     let facts = state.facts.as_slice();
-    match equal_sides(class, facts) {
+    truths_clash(class, first_read(facts, true), first_read(facts, false))
+}
+
+// The atom of the first false equality whose sides are of one class, by the index of the false equalities unless memory for
+// it was wanting.
+fn equal_sides_of(state: &State, apart: &Apart) -> Option<AtomId>
+    requires atoms { AreAtomsBelow (count_of state.now) state.now.facts.items }
+    requires pairs { HasPairsOf state.now.facts.items apart.now }
+    requires indexed { IsIndexed (class_in state.now) apart.now }
+    ensures { result ≡ first_equal state.now.classes.class.cells.items state.now.facts.items }
+{
+    if apart.whole && !apart.joined {
+        return None;
+    }
+    equal_sides(&state.classes.class, state.facts.as_slice())
+}
+
+// A clash of the literals read, if there is one. It goes over them where there is one, and else takes a few reads.
+pub(crate) fn clash_of(state: &State, apart: &Apart) -> Option<Clash>
+    requires atoms { AreAtomsBelow (count_of state.now) state.now.facts.items }
+    requires holds { AreHeld state.now.classes.class.cells.items state.now.facts.items }
+    requires objects { 2 ≤ count_of state.now }
+    requires pairs { HasPairsOf state.now.facts.items apart.now }
+    requires indexed { IsIndexed (class_in state.now) apart.now }
+    ensures { result ≡ first_clash state.now.classes.class.cells.items state.now.facts.items }
+{
+    match equal_sides_of(state, apart) {
         Some(atom) => Some(Clash::Facts(atom)),
-        None => truths_clash(class, first_read(facts, true), first_read(facts, false)),
+        None => truths_clash_of(state),
     }
 }

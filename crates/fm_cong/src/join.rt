@@ -5,11 +5,11 @@ ghost use Rattle.fm_cong.specs.Graphs.{Extends, IsPairBelow, IsWorking, cells_of
 ghost use Rattle.fm_cong.specs.States.{AreOfOneClass, AreRelated, HasFewerClasses, IsAtWork, IsNode, IsReason, KeepsJoined};
 ghost use Rattle.fm_cong.specs.Tables.{AreUses, IsLeft};
 
-use crate::member::{Member, Uses};
+use crate::member::Member;
 use crate::state::State;
 use crate::table::enter_class;
 use fm_base::Memory;
-use fm_cells::{Cause, Edge, Logged, hang};
+use fm_cells::{Cause, Edge, Logged, Places, hang};
 use std::alloc::Global;
 
 // Makes one class of those of two nodes: that of the first becomes part of that of the second.
@@ -17,7 +17,7 @@ fn merge_into(
     alloc: Global,
     state: &mut State,
     members: &[Member],
-    uses: &[Uses],
+    uses: &[Places],
     node: usize,
     to: usize,
     cause: Cause,
@@ -58,7 +58,7 @@ fn merge(
     alloc: Global,
     state: &mut State,
     members: &[Member],
-    uses: &[Uses],
+    uses: &[Places],
     node: usize,
     to: usize,
     cause: Cause,
@@ -93,7 +93,7 @@ pub(crate) fn join(
     alloc: Global,
     state: &mut State,
     members: &[Member],
-    uses: &[Uses],
+    uses: &[Places],
     node: usize,
     to: usize,
     cause: Cause,
@@ -138,7 +138,7 @@ pub(crate) fn run(
     alloc: Global,
     state: &mut State,
     members: &[Member],
-    uses: &[Uses],
+    uses: &[Places],
 ) -> Result<(), Memory>
     requires working { IsAtWork members.now state.old }
     requires uses { AreUses members.now uses.now }

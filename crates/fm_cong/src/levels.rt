@@ -1,21 +1,21 @@
 ghost use Rattle.std.specs.Prelude.{◌≡◌, ◌≤◌, ◌<◌, ◌↔◌, ◌+◌, ◌++◌, ◌∷◌, [], length, take, Some, OnOk, OnErr, IsTrue};
 ghost use Rattle.fm_cong.specs.Graphs.{cells_of};
-ghost use Rattle.fm_cong.specs.Levels.{IsAfter, IsInside, IsKept, IsMarkOf, IsRewound, IsComplete, IsSteady};
+ghost use Rattle.fm_cong.specs.Levels.{IsAfter, IsInside, IsKept, IsMarkOf, IsRewound, IsComplete, IsSteady, KeepsClasses, RestoresClasses};
 ghost use Rattle.fm_cong.specs.Levels.{IsCut, KeepsMarks, KeepsMarksBefore, LogsClasses, TakesBack};
 ghost use Rattle.fm_cells.specs.Oldest.{AreRight, HasSameKinds, IsReady, no_more};
 ghost use Rattle.fm_cong.specs.States.{HasNodes, class_in, root_in};
-ghost use Rattle.fm_cong.specs.States.{AreRelated, IsAtWork, IsNode, count_of};
+ghost use Rattle.fm_cong.specs.States.{AreRelated, IsAtWork, IsNode, KeepsJoined, count_of};
 ghost use Rattle.fm_cong.specs.Paths.{joined_by};
 ghost use Rattle.fm_cong.specs.Tables.{AreUses};
 
 use crate::fact::Fact;
 use crate::join::{join, run};
 use crate::mark::Mark;
-use crate::member::{Member, Uses};
+use crate::member::Member;
 use crate::state::State;
 use crate::table::enter;
 use fm_base::Memory;
-use fm_cells::{Cause, Oldest};
+use fm_cells::{Cause, Oldest, Places};
 use std::alloc::Global;
 
 // Where a state is now.
@@ -52,7 +52,7 @@ fn read_on(
     alloc: Global,
     state: &mut State,
     members: &[Member],
-    uses: &[Uses],
+    uses: &[Places],
     fact: Fact,
     node: usize,
     to: usize,
@@ -67,6 +67,7 @@ fn read_on(
     ensures quiet { OnOk result (state.new.waiting.items ≡ []) }
     ensures facts { OnOk result (state.new.facts.items ≡ state.old.facts.items ++ fact ∷ []) }
     ensures entered { OnOk result (state.new.entered ≡ state.old.entered) }
+    ensures coarser { OnOk result (KeepsJoined state.old state.new) }
     ensures after { IsAfter state.old state.new }
 {
     state.facts.push(fact)?;
@@ -80,7 +81,7 @@ pub(crate) fn read(
     alloc: Global,
     state: &mut State,
     members: &[Member],
-    uses: &[Uses],
+    uses: &[Places],
     fact: Fact,
     node: usize,
     to: usize,
@@ -99,6 +100,8 @@ pub(crate) fn read(
     ensures kept { KeepsMarks state.old state.new }
     ensures nodes { count_of state.new ≡ count_of state.old }
     ensures logged { OnOk result (LogsClasses state.old state.new) }
+    ensures coarser { OnOk result (KeepsJoined state.old state.new) }
+    ensures classes { KeepsClasses state.old state.new }
 {
     let mark = mark_of(state);
     match read_on(alloc, state, members, uses, fact, node, to) {
@@ -139,7 +142,7 @@ fn settle_on(
     alloc: Global,
     state: &mut State,
     members: &[Member],
-    uses: &[Uses],
+    uses: &[Places],
 ) -> Result<(), Memory>
     requires steady { IsSteady members.now (cells_of state.old) }
     requires quiet { state.old.waiting.items ≡ [] }
@@ -148,6 +151,7 @@ fn settle_on(
     ensures settled { OnOk result (IsComplete members.now (cells_of state.new)) }
     ensures quiet { OnOk result (state.new.waiting.items ≡ []) }
     ensures facts { state.new.facts.items ≡ state.old.facts.items }
+    ensures coarser { OnOk result (KeepsJoined state.old state.new) }
     ensures after { IsAfter state.old state.new }
 {
     while state.entered < members.len() {
@@ -162,7 +166,7 @@ pub(crate) fn settle(
     alloc: Global,
     state: &mut State,
     members: &[Member],
-    uses: &[Uses],
+    uses: &[Places],
 ) -> Result<(), Memory>
     requires steady { IsSteady members.now (cells_of state.old) }
     requires quiet { state.old.waiting.items ≡ [] }
@@ -177,6 +181,8 @@ pub(crate) fn settle(
     ensures kept { KeepsMarks state.old state.new }
     ensures nodes { count_of state.new ≡ count_of state.old }
     ensures logged { OnOk result (LogsClasses state.old state.new) }
+    ensures coarser { OnOk result (KeepsJoined state.old state.new) }
+    ensures classes { KeepsClasses state.old state.new }
 {
     let mark = mark_of(state);
     match settle_on(alloc, state, members, uses) {
@@ -223,6 +229,7 @@ pub(crate) fn undo(state: &mut State, oldest: &mut Oldest, members: &[Member], m
     ensures facts { state.new.facts.items ≡ take mark.facts state.old.facts.items }
     ensures entered { state.new.entered ≡ mark.entered }
     ensures kept { KeepsMarksBefore mark state.old state.new }
+    ensures classes { RestoresClasses state.old mark state.new }
     ensures nodes { count_of state.new ≡ count_of state.old }
     ensures ready { IsReady oldest.new no_more }
     ensures kinds { HasSameKinds oldest.old oldest.new }

@@ -8,6 +8,8 @@ mod fact;
 mod finding;
 mod join;
 mod key;
+#[cfg(test)]
+mod large_tests;
 mod levels;
 mod link;
 mod literals;
@@ -21,9 +23,10 @@ mod state;
 mod table;
 #[cfg(test)]
 mod tests;
+mod track;
 mod types;
 
 pub use clash::Clash;
 pub use egraph::Egraph;
 pub use fact::Fact;
-pub use link::{Link, Node};
+pub use link::{Link, Node, link_in};

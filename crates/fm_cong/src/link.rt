@@ -1,10 +1,9 @@
-ghost use Rattle.std.specs.Prelude.{◌≡◌, ◌<◌, length, option_map};
-ghost use Rattle.fm_cells.specs.Forest.{link_of as link_in};
+ghost use Rattle.std.specs.Prelude.{◌≡◌, ◌≤◌, MatchOption, length, option_map};
+ghost use Rattle.fm_cells.specs.Forest.{link_of as link_at};
 ghost use Rattle.fm_cong.specs.Links.{edge_of, node_of};
 
-use crate::state::State;
 use fm_base::TermId;
-use fm_cells::{Cause, link_of};
+use fm_cells::{Cause, Edge, link_of};
 
 /// What stands in classes: the terms, and yes and no, with which true and false predicate terms are joined.
 #[derive(Clone, Copy, Debug, PartialEq, Eq)]
@@ -33,25 +32,25 @@ fn node_at(number: usize) -> Node
     }
 }
 
-fn number_of(node: Node, count: usize) -> usize
-    requires { node_of node < count }
-    ensures { result ≡ node_of node }
+// The number of a node, or None where it isn't below a count.
+fn number_below(node: Node, count: usize) -> Option<usize>
+    ensures { MatchOption result (count ≤ node_of node) (λ n. n ≡ node_of node) }
 {
     let _count = count;
     match node {
-        Node::Yes => 0,
-        Node::No => 1,
-        Node::Term(term) => term.0 + 2,
+        Node::Yes => Some(0),
+        Node::No => Some(1),
+        Node::Term(term) => term.0.checked_add(2),
     }
 }
 
-// The link of a node.
-pub(crate) fn link_at(state: &State, node: Node) -> Option<Link>
-    requires { node_of node < length state.now.links.cells.items }
-    ensures { option_map edge_of result ≡ link_in state.now.links.cells.items (node_of node) }
+/// The link of a node in an explanation forest, which `Egraph::links` lends: None where the node is the end of its tree. It
+/// takes no memory.
+pub fn link_in(links: &[Option<Edge>], node: Node) -> Option<Link>
+    ensures { option_map edge_of result ≡ link_at links.now (node_of node) }
 {
-    let number = number_of(node, state.links.len());
-    let edge = link_of(state.links.cells.as_slice(), number)?;
+    let number = number_below(node, links.len())?;
+    let edge = link_of(links, number)?;
     Some(Link {
         to: node_at(edge.to),
         cause: edge.cause,

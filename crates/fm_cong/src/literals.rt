@@ -1,16 +1,17 @@
 ghost use Rattle.std.specs.Prelude.{◌≡◌, ◌<◌, ◌≤◌, ◌++◌, ◌∷◌, [], length, slice_get, None, Some, IfSome, OnOk, OnErr};
 ghost use Rattle.fm_cong.specs.Facts.{IsAtomBelow, joined_by};
 ghost use Rattle.fm_cong.specs.Graphs.{IsPairBelow, cells_of};
-ghost use Rattle.fm_cong.specs.Levels.{IsSteady, KeepsMarks, KeepsSteady, LogsClasses};
-ghost use Rattle.fm_cong.specs.States.{count_of};
+ghost use Rattle.fm_cong.specs.Levels.{IsSteady, KeepsClasses, KeepsMarks, KeepsSteady, LogsClasses};
+ghost use Rattle.fm_cong.specs.States.{KeepsJoined, count_of};
 ghost use Rattle.fm_cong.specs.Tables.{AreUses};
 
 use crate::fact::Fact;
 use crate::levels::read;
-use crate::member::{Member, Uses};
+use crate::member::Member;
 use crate::state::State;
 use fm_bank::{Atom, Bank};
 use fm_base::{AtomId, Lit, Memory};
+use fm_cells::Places;
 use std::alloc::Global;
 
 // The literal on an atom of a bank, with the atom.
@@ -58,6 +59,8 @@ fn note(state: &mut State, fact: Fact) -> Result<(), Memory>
     ensures kept { KeepsMarks state.old state.new }
     ensures nodes { count_of state.new ≡ count_of state.old }
     ensures logged { OnOk result (LogsClasses state.old state.new) }
+    ensures coarser { OnOk result (KeepsJoined state.old state.new) }
+    ensures classes { KeepsClasses state.old state.new }
 {
     state.facts.push(fact)?;
     Ok(())
@@ -68,7 +71,7 @@ pub(crate) fn read_literal(
     alloc: Global,
     state: &mut State,
     members: &[Member],
-    uses: &[Uses],
+    uses: &[Places],
     fact: Fact,
 ) -> Result<(), Memory>
     requires steady { IsSteady members.now (cells_of state.old) }
@@ -84,6 +87,8 @@ pub(crate) fn read_literal(
     ensures kept { KeepsMarks state.old state.new }
     ensures nodes { count_of state.new ≡ count_of state.old }
     ensures logged { OnOk result (LogsClasses state.old state.new) }
+    ensures coarser { OnOk result (KeepsJoined state.old state.new) }
+    ensures classes { KeepsClasses state.old state.new }
 {
     match joined(fact, state.classes.class.len()) {
         Some(pair) => read(alloc, state, members, uses, fact, pair.0, pair.1),

@@ -1,12 +1,14 @@
 ghost use Rattle.std.specs.Prelude.{◌≡◌, ◌<◌, ◌≤◌, ◌+◌, length, IfSome};
+ghost use Rattle.fm_cells.specs.Apart.{HasRoots, IsIndexed};
 ghost use Rattle.fm_cong.specs.Facts.{AreAtomsBelow, IsAtomBelow, are_parted, is_parted, unequal_by};
 ghost use Rattle.fm_cong.specs.Graphs.{IsPairBelow};
 ghost use Rattle.fm_cong.specs.States.{IsNode, class_in, count_of, truth_by};
+ghost use Rattle.fm_cong.specs.Tracked.{HasPairsOf};
 
 use crate::fact::Fact;
 use crate::state::State;
 use fm_bank::Atom;
-use fm_cells::Logged;
+use fm_cells::{Apart, Logged};
 
 // The sides of a false equality.
 pub(crate) fn unequal_sides(fact: Fact) -> Option<(usize, usize)>
@@ -45,8 +47,8 @@ fn parts(class: &Logged<usize>, fact: Fact, node: usize, other: usize) -> bool
     }
 }
 
-// Whether a literal read says that the classes of two nodes are unequal.
-pub(crate) fn is_apart(state: &State, node: usize, other: usize) -> bool
+// Whether a literal read says that the classes of two nodes are unequal, by going over all of them.
+fn is_apart_by_facts(state: &State, node: usize, other: usize) -> bool
     requires atoms { AreAtomsBelow (count_of state.now) state.now.facts.items }
     requires node { IsNode state.now node }
     requires other { IsNode state.now other }
@@ -58,6 +60,24 @@ pub(crate) fn is_apart(state: &State, node: usize, other: usize) -> bool
         }
     }
     false
+}
+
+// The same by the index of the false equalities, unless memory for it was wanting.
+pub(crate) fn is_apart(state: &State, apart: &Apart, node: usize, other: usize) -> bool
+    requires atoms { AreAtomsBelow (count_of state.now) state.now.facts.items }
+    requires pairs { HasPairsOf state.now.facts.items apart.now }
+    requires indexed { IsIndexed (class_in state.now) apart.now }
+    requires roots { HasRoots (class_in state.now) }
+    requires node { IsNode state.now node }
+    requires other { IsNode state.now other }
+    ensures { result ≡ are_parted state.now.classes.class.cells.items node other state.now.facts.items }
+{
+    let class = &state.classes.class;
+    if apart.whole {
+        apart.stands_between(class.get(node), class.get(other))
+    } else {
+        is_apart_by_facts(state, node, other)
+    }
 }
 
 // Whether a node is of the class of yes, else of the class of no.

@@ -3,9 +3,10 @@ ghost use Rattle.fm_bank.specs.Closure.{shape_at};
 ghost use Rattle.fm_bank.specs.Terms.{numbers};
 ghost use Rattle.fm_cong.specs.Growth.{AreBelow, HasMoreUses, HasPlace, HasPlaceAt, SayTheSame, is_flagged};
 
-use crate::member::{Member, Uses};
+use crate::member::Member;
 use fm_bank::Bank;
 use fm_base::{Memory, TermId};
+use fm_cells::Places;
 use std::alloc::Global;
 
 fn numbers_of(alloc: Global, terms: &[TermId]) -> Result<Vec<usize>, Memory>
@@ -47,18 +48,18 @@ pub(crate) fn reach_flag(flags: &mut Vec<bool>, number: usize) -> Result<(), Mem
 }
 
 // Makes a list of places for each of so many nodes.
-fn reach_uses(alloc: Global, uses: &mut Vec<Uses>, count: usize) -> Result<(), Memory>
+fn reach_uses(alloc: Global, uses: &mut Vec<Places>, count: usize) -> Result<(), Memory>
     ensures kept { HasMoreUses uses.old.items uses.new.items }
     ensures there { OnOk result (count ≤ length uses.new.items) }
 {
     while uses.len() < count {
-        uses.push(Uses::new(alloc))?;
+        uses.push(Places::new(alloc))?;
     }
     Ok(())
 }
 
 // Notes the place of a term at one of its arguments.
-fn note_use(uses: &mut Vec<Uses>, node: usize, place: usize) -> Result<(), Memory>
+fn note_use(uses: &mut Vec<Places>, node: usize, place: usize) -> Result<(), Memory>
     requires node { node < length uses.old.items }
     ensures kept { HasMoreUses uses.old.items uses.new.items }
     ensures there { OnOk result (HasPlaceAt uses.new.items node place) }
@@ -72,7 +73,7 @@ fn note_use(uses: &mut Vec<Uses>, node: usize, place: usize) -> Result<(), Memor
 // Notes the place of a term at each of its arguments, of which each is one of so many nodes.
 pub(crate) fn note_uses(
     alloc: Global,
-    uses: &mut Vec<Uses>,
+    uses: &mut Vec<Places>,
     count: usize,
     args: &[usize],
     place: usize,
@@ -86,7 +87,7 @@ pub(crate) fn note_uses(
     Ok(())
 }
 
-fn note_all(uses: &mut Vec<Uses>, args: &[usize], place: usize) -> Result<(), Memory>
+fn note_all(uses: &mut Vec<Places>, args: &[usize], place: usize) -> Result<(), Memory>
     requires args { AreBelow (length uses.old.items) args.now }
     ensures kept { HasMoreUses uses.old.items uses.new.items }
     ensures there { OnOk result (HasPlace uses.new.items args.now place) }

@@ -6,9 +6,9 @@ ghost use Rattle.fm_cong.specs.Tables.{AreAgain, HasGrown, IsAgain, IsClassAgain
 ghost use Rattle.fm_cong.specs.Tables.{find_in, moved, new_entry, signature, uses_at};
 
 use crate::key::{Args, Key};
-use crate::member::{Member, Uses};
+use crate::member::Member;
 use fm_base::Memory;
-use fm_cells::{Classes, Logged};
+use fm_cells::{Classes, Logged, Places};
 use indexmap::IndexMap;
 use smallvec::SmallVec;
 use std::alloc::Global;
@@ -58,7 +58,8 @@ fn classes_of(
 // Puts a node into the table where its signature isn't there yet, and answers what stood there.
 fn put(table: &mut IndexMap<Key, usize>, key: Key, node: usize) -> Result<Option<usize>, Memory>
     ensures found { IfOk result (λ found. found ≡ find_in table.old.entries key) }
-    ensures entries { OnOk result (table.new.entries ≡ table.old.entries ++ new_entry (find_in table.old.entries key) key node) }
+    ensures entries { OnOk result (table.new.entries ≡ table.old.entries ++ new_entry
+        (find_in table.old.entries key) key node) }
     ensures err { OnErr result (table.new.entries ≡ table.old.entries) }
 {
     match table.get(&key) {
@@ -83,8 +84,10 @@ pub(crate) fn enter(
     requires known { IsKnown (length class.now.cells.items) member.now }
     ensures table { HasGrown table.old.entries table.new.entries }
     ensures waiting { HasGrown waiting.old.items waiting.new.items }
-    ensures entered { OnOk result (IsEntered (moved from to class.now.cells.items) (find_in table.new.entries) waiting.new.items member.now) }
-    ensures sound { OnOk result (KeepsEnteringOf member.now (moved from to class.now.cells.items) table.old.entries waiting.old.items table.new.entries waiting.new.items) }
+    ensures entered { OnOk result (IsEntered (moved from to class.now.cells.items) (find_in
+        table.new.entries) waiting.new.items member.now) }
+    ensures sound { OnOk result (KeepsEnteringOf member.now (moved from to class.now.cells.items)
+        table.old.entries waiting.old.items table.new.entries waiting.new.items) }
 {
     let node = member.number() + 2;
     let key = key_of(alloc, class, from, to, member)?;
@@ -111,8 +114,10 @@ fn enter_at(
     requires known { All (IsKnown (length class.now.cells.items)) members.now }
     ensures table { HasGrown table.old.entries table.new.entries }
     ensures waiting { HasGrown waiting.old.items waiting.new.items }
-    ensures entered { OnOk result (IsAgain members.now (moved from to class.now.cells.items) table.new.entries waiting.new.items place) }
-    ensures sound { OnOk result (KeepsEntering members.now (moved from to class.now.cells.items) table.old.entries waiting.old.items table.new.entries waiting.new.items) }
+    ensures entered { OnOk result (IsAgain members.now (moved from to class.now.cells.items)
+        table.new.entries waiting.new.items place) }
+    ensures sound { OnOk result (KeepsEntering members.now (moved from to class.now.cells.items)
+        table.old.entries waiting.old.items table.new.entries waiting.new.items) }
 {
     if let Some(member) = members.get(place) {
         enter(alloc, table, waiting, class, from, to, member)?;
@@ -134,8 +139,10 @@ fn enter_uses(
     requires known { All (IsKnown (length class.now.cells.items)) members.now }
     ensures table { HasGrown table.old.entries table.new.entries }
     ensures waiting { HasGrown waiting.old.items waiting.new.items }
-    ensures entered { OnOk result (AreAgain members.now (moved from to class.now.cells.items) table.new.entries waiting.new.items places.now) }
-    ensures sound { OnOk result (KeepsEntering members.now (moved from to class.now.cells.items) table.old.entries waiting.old.items table.new.entries waiting.new.items) }
+    ensures entered { OnOk result (AreAgain members.now (moved from to class.now.cells.items)
+        table.new.entries waiting.new.items places.now) }
+    ensures sound { OnOk result (KeepsEntering members.now (moved from to class.now.cells.items)
+        table.old.entries waiting.old.items table.new.entries waiting.new.items) }
 {
     for place in places {
         enter_at(alloc, table, waiting, class, from, to, members, *place)?;
@@ -152,14 +159,16 @@ fn enter_node(
     from: usize,
     to: usize,
     members: &[Member],
-    uses: &[Uses],
+    uses: &[Places],
     node: usize,
 ) -> Result<(), Memory>
     requires known { All (IsKnown (length class.now.cells.items)) members.now }
     ensures table { HasGrown table.old.entries table.new.entries }
     ensures waiting { HasGrown waiting.old.items waiting.new.items }
-    ensures entered { OnOk result (AreAgain members.now (moved from to class.now.cells.items) table.new.entries waiting.new.items (uses_at uses.now node)) }
-    ensures sound { OnOk result (KeepsEntering members.now (moved from to class.now.cells.items) table.old.entries waiting.old.items table.new.entries waiting.new.items) }
+    ensures entered { OnOk result (AreAgain members.now (moved from to class.now.cells.items)
+        table.new.entries waiting.new.items (uses_at uses.now node)) }
+    ensures sound { OnOk result (KeepsEntering members.now (moved from to class.now.cells.items)
+        table.old.entries waiting.old.items table.new.entries waiting.new.items) }
 {
     if let Some(list) = uses.get(node) {
         enter_uses(
@@ -170,7 +179,7 @@ fn enter_node(
             from,
             to,
             members,
-            list.places(),
+            list.as_slice(),
         )?;
     }
     Ok(())
@@ -185,17 +194,20 @@ pub(crate) fn enter_class(
     from: usize,
     to: usize,
     members: &[Member],
-    uses: &[Uses],
+    uses: &[Places],
 ) -> Result<(), Memory>
-    requires ring { HasRing (own_or classes.now.next.cells.items) (own_or classes.now.class.cells.items) (root_or classes.now.size.cells.items) from }
+    requires ring { HasRing (own_or classes.now.next.cells.items) (own_or classes.now.class.cells.items)
+        (root_or classes.now.size.cells.items) from }
     requires from { from < length classes.now.class.cells.items }
     requires nexts { length classes.now.next.cells.items ≡ length classes.now.class.cells.items }
     requires sizes { length classes.now.size.cells.items ≡ length classes.now.class.cells.items }
     requires known { All (IsKnown (length classes.now.class.cells.items)) members.now }
     ensures table { HasGrown table.old.entries table.new.entries }
     ensures waiting { HasGrown waiting.old.items waiting.new.items }
-    ensures entered { OnOk result (IsClassAgain members.now uses.now from to classes.now.class.cells.items table.new.entries waiting.new.items) }
-    ensures sound { OnOk result (KeepsEntering members.now (moved from to classes.now.class.cells.items) table.old.entries waiting.old.items table.new.entries waiting.new.items) }
+    ensures entered { OnOk result (IsClassAgain members.now uses.now from to classes.now.class.cells.items
+        table.new.entries waiting.new.items) }
+    ensures sound { OnOk result (KeepsEntering members.now (moved from to classes.now.class.cells.items)
+        table.old.entries waiting.old.items table.new.entries waiting.new.items) }
 {
     let mut at = from;
     let root = classes.size.get(from);

@@ -3,7 +3,7 @@ ghost use Rattle.std.specs.List.{All};
 ghost use Rattle.fm_bank.specs.Terms.{numbers};
 ghost use Rattle.fm_cong.specs.Held.{IsRegistered, JoinsRegistered};
 
-use crate::{Clash, Egraph};
+use crate::{Clash, Egraph, Node};
 use fm_bank::{Atom, Bank};
 use fm_base::{AtomId, Memory, Rank, Sig, SortId, SymId, TermId, Ty, Undo};
 use sqlite_items::Items;
@@ -23,9 +23,9 @@ const TERMS: &[u8] = b"a.b.c.faf1f2fbpapbpc";
 
 // Registers a term (r), reads an equation (=) or its negation (/), a true (y) or a false (n) predicate term, opens a level
 // (m), goes back to one (u), settles (s); and asks: are two terms equal (?) or not (#), apart (|) or not (:), is a term
-// true (T), false (F) or neither (0), is there no clash (_), or one (!) of an atom (=) or of two terms, and which are the
-// oldest of their classes (c), of which there are three at most.
-const CASES: [&[u8]; 8] = [
+// true (T), false (F) or neither (0), is there no clash (_), or one (!) of an atom (=) or of two terms, which are the oldest
+// of their classes (c), of which there are three at most, and to which node does one link (>), or to none (.).
+const CASES: [&[u8]; 9] = [
     // f applied three times and twice to a leaves a
     b"r a r 1 r 2 r 3 =a3 #a1 =a2 ?a1 ?12",
     // terms that are registered above a level are joined again after an undo below it
@@ -40,6 +40,8 @@ const CASES: [&[u8]; 8] = [
     b"r a r b r c cabcm   =bc cab.=ac ca..u 0 cabc",
     // and those of terms that are registered above a level
     b"r c m   r a =ac ca..u 0 s   cac.r b cabc",
+    // the links of the forest: a way up is turned round where its node is hung elsewhere, and an undo turns it back
+    b"r a r b r c r 1 r p >a. =ab >ab >b. =c1 >c1 m   =a1 >ba >a1 >c1 y p >pY >Y. u 0 >ab >b. >c1 >p.",
     // two levels
     b"r a r b r c m   =ab m   =bc ?ac u 1 ?ab #bc u 0 #ab",
 ];
@@ -120,7 +122,12 @@ fn joins(graph: &Egraph, atom: Atom) -> bool
     }
 }
 
-fn add(rt: &impl Abort, graph: &mut Egraph, bank: &Bank, term: TermId) -> Result<(), Memory> {
+pub(crate) fn add(
+    rt: &impl Abort,
+    graph: &mut Egraph,
+    bank: &Bank,
+    term: TermId,
+) -> Result<(), Memory> {
     assert!(rt; term.0 < bank.terms());
     let (_symbol, args) = bank.term(term);
     if are_registered(graph, args) {
@@ -128,6 +135,22 @@ fn add(rt: &impl Abort, graph: &mut Egraph, bank: &Bank, term: TermId) -> Result
     }
     assert!(rt; graph.is_registered(term));
     Ok(())
+}
+
+pub(crate) fn read_atom(
+    rt: &impl Abort,
+    graph: &mut Egraph,
+    bank: &Bank,
+    atom: AtomId,
+    positive: bool,
+) -> Result<(), Memory> {
+    assert!(rt; atom.0 < bank.atoms());
+    assert!(rt; joins(graph, bank.atom_of(atom)));
+    if positive {
+        graph.merge(bank, atom)
+    } else {
+        graph.unequal(bank, atom)
+    }
 }
 
 fn read(
@@ -139,13 +162,7 @@ fn read(
 ) -> Result<(), Memory> {
     assert!(rt; bank.is_atom(atom));
     let id = bank.atom(atom)?;
-    assert!(rt; id.0 < bank.atoms());
-    assert!(rt; joins(graph, bank.atom_of(id)));
-    if positive {
-        graph.merge(bank, id)
-    } else {
-        graph.unequal(bank, id)
-    }
+    read_atom(rt, graph, bank, id, positive)
 }
 
 // Whether two terms are equal, and whether they are apart, as a step says.
@@ -201,12 +218,28 @@ fn list_classes(rt: &impl Abort, graph: &Egraph, step: &[u8]) {
 }
 
 // A level of the graph by its digit; the graph tells how many are open by the number of the next one alone.
-fn go_back(rt: &impl Abort, graph: &mut Egraph, digit: u8) -> Result<(), Memory> {
+pub(crate) fn go_back(rt: &impl Abort, graph: &mut Egraph, digit: u8) -> Result<(), Memory> {
     let level = usize::from(digit.saturating_sub(b'0'));
     let top = graph.mark()?;
     assert!(rt; level <= top);
     graph.undo_to(level);
     Ok(())
+}
+
+// The node of a letter: yes (Y), no (N) or a term.
+fn node(letter: u8) -> Node {
+    match letter {
+        b'Y' => Node::Yes,
+        b'N' => Node::No,
+        _ => Node::Term(term(letter)),
+    }
+}
+
+// Whether the link of a node leads to another one, or is none where that is a point.
+fn look_at_link(rt: &impl Abort, graph: &Egraph, from: u8, to: u8) {
+    let leads = graph.link(node(from)).map(|link| link.to);
+    let wanted = if to == b'.' { None } else { Some(node(to)) };
+    assert_eq!(rt; leads, wanted);
 }
 
 fn run(rt: &impl Abort, graph: &mut Egraph, bank: &mut Bank, step: &[u8]) -> Result<(), Memory> {
@@ -228,6 +261,10 @@ fn run(rt: &impl Abort, graph: &mut Egraph, bank: &mut Bank, step: &[u8]) -> Res
         }
         [b'c', ..] => {
             list_classes(rt, graph, step);
+            Ok(())
+        }
+        [b'>', x, y, ..] => {
+            look_at_link(rt, graph, *x, *y);
             Ok(())
         }
         [b'_' | b'!', ..] => {

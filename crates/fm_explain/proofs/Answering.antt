@@ -11,7 +11,7 @@ use Rattle.fm_explain.specs.declared.explaining.Explanation.{Explanation}
 
 module _ (g : Held) (bank : Bank) (links : List (Option Edge)) (x : IsExplained g links) where
   by_forest : (r : Result Explanation Memory) (u v : ℕ) → IfOk r (IsExplanation bank (link_of links) u v) → IfOk r (AreRead g) → IfOk r (ShowsEqual bank u v) → IfOk r (Explains g bank u v)
-  by_forest (Ok e) u v paths read shows = record { links = links; forest = x; explanation = paths; read = read; shows = shows }
+  by_forest (Ok e) u v paths read shows = record { explanation = subst (λ (link : ℕ → Option Edge). IsExplanation bank link u v e) x.same paths; read = read; shows = shows }
   by_forest (Err e) u v paths read shows = tt
 
   pub explains_by : (r : Result Explanation Memory) (u v a b : ℕ) → u ≡ a → v ≡ b → IfOk r (IsExplanation bank (link_of links) u v) → ((h : Held) → IsExplained h links → IfOk r (AreRead h)) → IfOk r (ShowsEqual bank u v) → IfOk r (Explains g bank a b)

@@ -107,16 +107,16 @@ read_by g links x lits terms a b exact =
     record { fact = j.fact; read = j.read; lit_is = j.lit_is })
 
 -- what a function answers for distinct elements is distinct, where no answer comes twice
-record IsGiven (f : ℕ → Option Lit) (xs : List ℕ) (k : Lit) : Type 0 where
+record IsGiven {X : Type 0} (f : ℕ → Option X) (xs : List ℕ) (k : X) : Type 0 where
   x : ℕ
   on : is_on xs x ≡ true
   gives : f x ≡ Some k
 
-has_by : (o : Option Lit) (ls : List Lit) (k : Lit) → Has (cons_option o ls) k → (o ≡ Some k) ⊎ Has ls k
+has_by : {X : Type 0} → (o : Option X) (ls : List X) (k : X) → Has (cons_option o ls) k → (o ≡ Some k) ⊎ Has ls k
 has_by None ls k h = inr h
 has_by (Some l) ls k h = elim h [ inl e ↦ inl (ap Some e) | inr r ↦ inr r ]
 
-given : (f : ℕ → Option Lit) (xs : List ℕ) (k : Lit) → Has (filter_map f xs) k → IsGiven f xs k
+given : {X : Type 0} → (f : ℕ → Option X) (xs : List ℕ) (k : X) → Has (filter_map f xs) k → IsGiven f xs k
 given f [] k h = absurd h
 given f (y ∷ ys) k h =
     elim (has_by (f y) (filter_map f ys) k h) [
@@ -128,14 +128,29 @@ not_on : (x : ℕ) (ys : List ℕ) → AllByRecursion (λ w. eqb x w ≡ false) 
 not_on x [] d h = false≢true h
 not_on x (y ∷ ys) d h = elim (or_cases (x == y) (is_on ys x) h) [ inl e ↦ false≢true (sym d.0 ∙ e) | inr r ↦ not_on x ys d.1 r ]
 
-once_with : (f : ℕ → Option Lit) → ((x y : ℕ) (k : Lit) → f x ≡ Some k → f y ≡ Some k → x ≡ y) → (x : ℕ) (xs : List ℕ) → AllByRecursion (λ w. eqb x w ≡ false) xs → AreDistinct (filter_map f xs) → (o : Option Lit) → f x ≡ o → AreDistinct (cons_option o (filter_map f xs))
+once_with : {X : Type 0} → (f : ℕ → Option X) → ((x y : ℕ) (k : X) → f x ≡ Some k → f y ≡ Some k → x ≡ y) → (x : ℕ) (xs : List ℕ) → AllByRecursion (λ w. eqb x w ≡ false) xs → AreDistinct (filter_map f xs) → (o : Option X) → f x ≡ o → AreDistinct (cons_option o (filter_map f xs))
 once_with f one x xs d rest None e = rest
 once_with f one x xs d rest (Some k) e = (λ h. let r = given f xs k h in not_on x xs d (subst (λ (z : ℕ). is_on xs z ≡ true) (sym (one x r.x k e r.gives)) r.on), rest)
 
-pub once : (f : ℕ → Option Lit) → ((x y : ℕ) (k : Lit) → f x ≡ Some k → f y ≡ Some k → x ≡ y) → (xs : List ℕ) → IsDistinct eqb xs → AreDistinct (filter_map f xs)
+pub once : {X : Type 0} → (f : ℕ → Option X) → ((x y : ℕ) (k : X) → f x ≡ Some k → f y ≡ Some k → x ≡ y) → (xs : List ℕ) → IsDistinct eqb xs → AreDistinct (filter_map f xs)
 unfolding IsDistinct
 once f one [] d = tt
 once f one (x ∷ xs) d = once_with f one x xs d.0 (once f one xs d.1) (f x) refl
+
+-- a term is at one node
+pub one_node : (x y k : ℕ) → term_at x ≡ Some k → term_at y ≡ Some k → x ≡ y
+one_node x y k p q = sym (node_is x k p) ∙ node_is y k q
+  where
+    some_is : (a b : ℕ) → Some a ≡ Some b → b ≡ a
+    some_is a b e = cc
+
+    none_is : (b : ℕ) → None ≡ Some b → ⊥
+    none_is b e = cc
+
+    node_is : (x k : ℕ) → term_at x ≡ Some k → suc (suc k) ≡ x
+    node_is zero k e = absurd (none_is k e)
+    node_is (suc zero) k e = absurd (none_is k e)
+    node_is (suc (suc n)) k e = ap (λ (m : ℕ). suc (suc m)) (some_is n k e)
 
 -- the support
 all_cases : (nodes xs : List ℕ) (x : ℕ) → is_on (with_all nodes xs) x ≡ true → (is_on nodes x ≡ true) ⊎ (is_on xs x ≡ true)

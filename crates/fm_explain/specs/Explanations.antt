@@ -7,10 +7,9 @@ use Rattle.fm_bank.specs.Closure.{Follows, Shape, no, object, shapes_of, yes}
 use Rattle.fm_bank.specs.Interning.{Held as Bank}
 use Rattle.fm_bank.specs.Terms.{Term, numbers}
 use Rattle.fm_bank.specs.declared.atom.Atom.{Atom}
-use Rattle.fm_cells.specs.Forest.{link_of}
 use Rattle.fm_cells.specs.declared.edge.Edge.{Edge}
 use Rattle.fm_cong.specs.Explained.{IsExplained}
-use Rattle.fm_cong.specs.Held.{Held}
+use Rattle.fm_cong.specs.Held.{Held, link_held}
 use Rattle.fm_cong.specs.declared.fact.Fact.{Fact}
 use Rattle.fm_explain.specs.declared.explaining.Explanation.{Explanation}
 use Rattle.fm_explain.specs.Meant.{IsLitMeant, IsNodeMeant, pairs_by}
@@ -36,11 +35,12 @@ pub record IsForestOver (bank : Bank) (links : List (Option Edge)) : Type 0 wher
   pub explained : IsExplained graph links
   pub known : IsKnownBy graph bank
 
--- the literals are exactly those of the links by a fact on the paths meant, each once, and the support the terms on them
+-- the literals are exactly those of the links by a fact on the paths meant, and the support the terms on them, each once
 pub record IsExplanation (bank : Bank) (link : ℕ → Option Edge) (a b : ℕ) (x : Explanation) : Type 0 where
   pub literals : (k : Lit) → Contains x.lits.items k ↔ IsLitMeant bank.terms link a b k
   pub once : AreDistinct x.lits.items
   pub terms : (n : ℕ) → Contains (numbers x.support.items) n ↔ IsNodeMeant bank.terms link a b (object n)
+  pub terms_once : AreDistinct (numbers x.support.items)
 
 -- the literal was read
 pub record IsRead (facts : List Fact) (k : Lit) : Type 0 where
@@ -55,11 +55,9 @@ AreRead g x = All (IsRead g.facts) x.lits.items
 abbrev pub ShowsEqual : Bank → ℕ → ℕ → Explanation → Type 0
 ShowsEqual bank a b x = Follows (shapes_of bank.terms (numbers x.support.items)) (pairs_by bank.atoms x.lits.items) a b
 
--- by the forest of an e-graph
+-- by the explanation forest of an e-graph
 pub record Explains (g : Held) (bank : Bank) (a b : ℕ) (x : Explanation) : Type 0 where
-  pub links : List (Option Edge)
-  pub forest : IsExplained g links
-  pub explanation : IsExplanation bank (link_of links) a b x
+  pub explanation : IsExplanation bank (link_held g) a b x
   pub read : AreRead g x
   pub shows : ShowsEqual bank a b x
 

@@ -24,10 +24,8 @@ pub struct Explanation {
     pub support: Vec<TermId>,
 }
 
-/// Explains why two nodes of one tree of an explanation forest are joined: 0 is yes, 1 is no, and the term n is n + 2.
-/// The bank holds the registered terms and the atoms read. Time is in proportion to the links met, their arguments and
-/// the ways up from these.
-pub fn explain_along(
+// Explains why two nodes of one tree of an explanation forest are joined.
+fn explain_along(
     alloc: Global,
     bank: &Bank,
     links: &[Option<Edge>],
@@ -48,7 +46,8 @@ pub fn explain_along(
 }
 
 /// Explains why two terms are equal in a settled e-graph, by its explanation forest. The bank holds each registered term
-/// as it was when it was registered, and the atom of each literal read.
+/// as it was when it was registered, and the atom of each literal read. Time is in proportion to the links met, their
+/// arguments and the ways up from these.
 pub fn explain(
     alloc: Global,
     graph: &Egraph,

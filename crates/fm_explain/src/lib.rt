@@ -8,7 +8,9 @@ mod explaining;
 mod laws;
 mod paths;
 #[cfg(test)]
+mod random_tests;
+#[cfg(test)]
 mod tests;
 
-pub use explaining::{Explanation, explain, explain_along, explain_truth};
+pub use explaining::{Explanation, explain, explain_truth};
 pub use laws::graphs_stay_known;

@@ -92,7 +92,8 @@ fn add_arguments(
 ) -> Result<(), Memory>
     requires ended { (x : ℕ) → HasEnd (link_of links.now) x }
     requires trees { AllZip (λ s t. AreInOneTree (link_of links.now) (object s) (object t)) (numbers xs.now) (numbers ys.now) }
-    ensures has { OnOk result (HasArgumentPaths (link_of links.now) met.old.keys met.new.keys (numbers xs.now) (numbers ys.now) (length xs.now)) }
+    ensures has { OnOk result (HasArgumentPaths (link_of links.now) met.old.keys met.new.keys
+        (numbers xs.now) (numbers ys.now) (length xs.now)) }
     ensures grown { OnOk result (AreGrown met.old.keys met.new.keys) }
 {
     for i in 0..xs.len() {
@@ -149,7 +150,8 @@ pub(crate) fn meant(
     requires ended { (x : ℕ) → HasEnd (link_of links.now) x }
     requires congruent { AreCongruences bank.now.terms (link_of links.now) }
     requires tree { AreInOneTree (link_of links.now) a b }
-    ensures meant { IfOk result (λ met. (e : ℕ) → (is_on met.keys e ≡ true) ↔ IsMeant bank.now.terms (link_of links.now) a b e) }
+    ensures meant { IfOk result (λ met. (e : ℕ) →
+        (is_on met.keys e ≡ true) ↔ IsMeant bank.now.terms (link_of links.now) a b e) }
     ensures once { IfOk result (λ met. IsDistinct eqb met.keys) }
 {
     let mut met = IndexSet::new(alloc);

@@ -1,6 +1,6 @@
 use Rattle.std.proofs.Common.{sym, subst}
 use Rattle.fm_cong.specs.Levels.{IsSteady}
-use Rattle.fm_cong.proofs.Marking.{cells_back, count_after, count_back, kept_after, kept_back}
+use Rattle.fm_cong.proofs.Marking.{cells_back, classes_after, classes_back, count_after, count_back, kept_after, kept_back}
 use Rattle.fm_cong.proofs.levels.read.Goals as goal
 
 pub returns-in-Ok-clause-kept : goal.returns-in-Ok-clause-kept
@@ -17,3 +17,9 @@ returns-in-Ok-clause-nodes c = count_after c.args.state.now c.read_on.new.state 
 
 pub returns-in-Err-clause-nodes : goal.returns-in-Err-clause-nodes
 returns-in-Err-clause-nodes c = count_back c.args.state.now c.read_on.new.state c.rewind.new.state c.mark_of-mark.result c.mark_of-mark.ensures c.in-Err.ensures.after c.rewind.ensures
+
+pub returns-in-Ok-clause-classes : goal.returns-in-Ok-clause-classes
+returns-in-Ok-clause-classes c = classes_after c.args.state.now c.read_on.new.state c.in-Ok.ensures.after
+
+pub returns-in-Err-clause-classes : goal.returns-in-Err-clause-classes
+returns-in-Err-clause-classes c = classes_back c.args.state.now c.read_on.new.state c.rewind.new.state c.mark_of-mark.result c.mark_of-mark.ensures c.in-Err.ensures.after c.rewind.ensures

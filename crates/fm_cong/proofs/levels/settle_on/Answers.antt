@@ -7,7 +7,7 @@ use Rattle.fm_cong.proofs.Reading.{holds_coarser}
 use Rattle.fm_cong.proofs.levels.settle_on.Goals as goal
 
 pub loop-state-init : goal.loop-state-init
-loop-state-init c = record { steady = c.requires.steady; quiet = c.requires.quiet; entered = c.requires.entered; facts = refl; after = after_none c.args.state.now }
+loop-state-init c = record { steady = c.requires.steady; quiet = c.requires.quiet; entered = c.requires.entered; facts = refl; coarser = λ x y e. e; after = after_none c.args.state.now }
 
 pub loop-state-preserved : goal.loop-state-preserved
 loop-state-preserved c =
@@ -23,6 +23,7 @@ loop-state-preserved c =
       quiet = r.waiting;
       entered = omega (arith, r.extends.entered, n.entered, c.loop-state-test.true);
       facts = facts ∙ inv.facts;
+      coarser = λ x y e. coarser x y (inv.coarser x y e);
       after = after_more c.args.state.now s c.run.new.state inv.after (after_more s c.enter_next.new.state c.run.new.state n.after (after_extends c.enter_next.new.state c.run.new.state r.extends));
     }
 

@@ -1,7 +1,7 @@
 use Rattle.std.proofs.Common.{sym, subst}
 use Rattle.fm_cells.proofs.Following.{kinds_same}
 use Rattle.fm_cong.specs.Levels.{IsSteady}
-use Rattle.fm_cong.proofs.Marking.{cells_rewound, count_rewound, kept_rewound}
+use Rattle.fm_cong.proofs.Marking.{cells_rewound, classes_restored, count_rewound, kept_rewound}
 use Rattle.fm_cong.proofs.Tracking.{inside_taken, nodes_taken, rewound_parts, right_taken}
 use Rattle.fm_cong.proofs.levels.undo.Goals as goal
 
@@ -34,3 +34,8 @@ returns-clause-kinds c = kinds_same c.args.oldest.now c.follow.new.self c.follow
 
 pub returns-clause-right : goal.returns-clause-right
 returns-clause-right c = right_taken c.args.state.now c.take_back.new.state c.args.mark c.take_back.ensures c.cut.new.state c.cut.ensures c.args.oldest.now c.follow.new.self c.follow.ensures.right c.requires.right
+
+pub returns-clause-classes : goal.returns-clause-classes
+returns-clause-classes c =
+    let r = rewound_parts c.args.state.now c.take_back.new.state c.args.mark c.take_back.ensures c.cut.new.state c.cut.ensures in
+    classes_restored c.args.state.now c.args.mark c.cut.new.state c.requires.kept.inside r

@@ -1,4 +1,5 @@
 use Rattle.std.proofs.Common.{◌≡◌, [], length, sym, subst, ap, ◌∙◌, arith}
+use Rattle.fm_cells.specs.Forest.{trimmed}
 use Rattle.fm_cong.specs.Graphs.{cells_of}
 use Rattle.fm_cong.specs.Levels.{IsSteady}
 use Rattle.fm_cong.specs.declared.state.State.{State}
@@ -23,4 +24,5 @@ returns c =
       facts = k.facts ∙ c.new-5.ensures.items;
       entered = k.entered;
       objects = omega (arith, c.in_ok-reach_node.ensures.there);
+      links = k.links ∙ ap trimmed c.new-2.ensures.cells;
     }

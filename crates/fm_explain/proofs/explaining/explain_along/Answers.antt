@@ -6,7 +6,7 @@ use Rattle.fm_bank.specs.Closure.{shapes_of}
 use Rattle.fm_bank.specs.Terms.{numbers}
 use Rattle.fm_cells.specs.Forest.{link_of}
 use Rattle.fm_explain.specs.Meant.{IsLitMeant, lit_at, pairs_by, path_nodes, term_at, with_all}
-use Rattle.fm_explain.proofs.Exact.{congruences_known, once, one_place, read_by, support_exact}
+use Rattle.fm_explain.proofs.Exact.{congruences_known, once, one_node, one_place, read_by, support_exact}
 use Rattle.fm_explain.proofs.Showing.{follows_by}
 use Rattle.fm_explain.proofs.Supporting.{literals_exact, shown_by}
 use Rattle.fm_explain.proofs.explaining.explain_along.Goals as goal
@@ -32,6 +32,7 @@ returns-clause-paths c =
     record {
       literals = λ k. subst (λ (ls : List Lit). Contains ls k ↔ IsLitMeant terms link c.args.a c.args.b k) (sym lits) (literals_exact terms link c.args.a c.args.b keys c.in_ok-met.ensures.meant k);
       once = subst (λ (ls : List Lit). AreDistinct ls) (sym lits) (once (λ e. lit_at (link e)) (one_place f.graph c.args.links.now c.args.bank.now f.explained f.known) keys c.in_ok-met.ensures.once);
+      terms_once = subst (λ (ns : List ℕ). AreDistinct ns) (sym (c.in_ok-support.ensures ∙ ap (filter_map term_at) c.as_slice-3.ensures.keys)) (once term_at one_node c.in_ok-nodes.nodes.keys c.as_slice-3.ensures.unique);
       terms = support_exact terms link c.args.a c.args.b keys c.in_ok-met.ensures.meant (numbers c.in_ok-support.support.items) support;
     }
 

@@ -1,4 +1,4 @@
-use Rattle.std.proofs.Common.{ℕ, ◌<◌, List, length, refl, sym, subst, arith, length-set}
+use Rattle.std.proofs.Common.{ℕ, ◌<◌, length, refl, sym, subst, length-set}
 use Rattle.std.specs.Prelude.{slice_set}
 use Rattle.std.specs.List.{All}
 use Rattle.std.proofs.lemmas.List.Elements.{All-set}

@@ -1,6 +1,6 @@
 use Rattle.std.proofs.Common.{◌≡◌, ◌-◌, ℕ, suc, drop, subst, arith}
 use Rattle.fm_cells.specs.Logs.{WereWritten}
-use Rattle.fm_cells.proofs.Exchanging.{taken_more, taken_none}
+use Rattle.fm_cells.proofs.Exchanging.{taken_more}
 use Rattle.fm_cells.proofs.cells.Logged.take_back.Goals as goal
 
 pub loop-at-preserved : goal.loop-at-preserved

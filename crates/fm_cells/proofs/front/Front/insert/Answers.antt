@@ -1,6 +1,5 @@
-use Rattle.std.proofs.Common.{◌≡◌, cond, List, sym, subst, ap, ◌∙◌, arith}
+use Rattle.std.proofs.Common.{◌≡◌, cond, sym, subst, ap, ◌∙◌, arith}
 use Rattle.std.specs.List.{insert}
-use Rattle.fm_base.specs.declared.ids.TermId.{TermId}
 use Rattle.fm_cells.specs.Fronts.{IsAscending}
 use Rattle.fm_cells.proofs.Placing.{put_ascending, put_others}
 use Rattle.fm_cells.proofs.front.Front.insert.Goals as goal

@@ -1,4 +1,4 @@
-use Rattle.std.proofs.Common.{sym, subst, arith}
+use Rattle.std.proofs.Common.{arith}
 use Rattle.fm_cells.proofs.Placing.{place_below, taken_gone, taken_others}
 use Rattle.fm_cells.proofs.front.Front.remove.Goals as goal
 

@@ -1,4 +1,4 @@
-use Rattle.std.proofs.Common.{◌≡◌, ℕ, Some, refl}
+use Rattle.std.proofs.Common.{Some, refl}
 use Rattle.std.specs.Vec.{with_item}
 use Rattle.fm_cells.specs.declared.oldest.Oldest.{Oldest}
 use Rattle.fm_cells.proofs.Listing.{kinds_noted, ready_noted}

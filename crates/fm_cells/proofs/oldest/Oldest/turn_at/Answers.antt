@@ -1,5 +1,4 @@
-use Rattle.std.proofs.Common.{◌≡◌, Some, refl, sym, ap, ◌∙◌, arith}
-use Rattle.std.specs.Prelude.{slice_get}
+use Rattle.std.proofs.Common.{refl, ap, ◌∙◌, arith}
 use Rattle.std.specs.Vec.{with_item}
 use Rattle.fm_cells.specs.Fronts.{is_in}
 use Rattle.fm_cells.specs.declared.oldest.Oldest.{Oldest}

@@ -1,5 +1,5 @@
 use Rattle.std.proofs.Common.{ℕ, ◌++◌, ◌∷◌, [], List, sym, subst, ap, ◌∙◌}
-use Rattle.fm_cells.specs.Rings.{AreRings, alone, own_or, root_or}
+use Rattle.fm_cells.specs.Rings.{AreRings, own_or, root_or}
 use Rattle.fm_cells.specs.declared.rings.Root.{Root}
 use Rattle.fm_cells.proofs.Pushing.{rings_push}
 use Rattle.fm_cells.proofs.rings.Classes.push_within.Goals as goal

@@ -24,3 +24,12 @@ returns c =
       (λ t. subst (λ (h : Held). AreUnequal h c.args.a.0 c.args.b.0) c.self.view_is (parted_from g.members.items (pairs_of facts) cells exact a b facts (sym c.is_apart.ensures ∙ t))),
       (λ h. c.is_apart.ensures ∙ parted_to g.members.items (pairs_of facts) cells exact a b facts (subst (λ (k : Held). AreUnequal k c.args.a.0 c.args.b.0) (sym c.self.view_is) h)),
     )
+
+pub is_apart-requires-clause-pairs : goal.is_apart-requires-clause-pairs
+is_apart-requires-clause-pairs c = c.self.invariant.unequal
+
+pub is_apart-requires-clause-indexed : goal.is_apart-requires-clause-indexed
+is_apart-requires-clause-indexed c = c.self.invariant.tracked.indexed
+
+pub is_apart-requires-clause-roots : goal.is_apart-requires-clause-roots
+is_apart-requires-clause-roots c = c.self.invariant.sound.steady.working.rings.root

@@ -4,6 +4,7 @@ use Rattle.fm_cong.specs.Facts.{numbers_of_pair, unequal_of}
 use Rattle.fm_cong.specs.Held.{JoinsRegistered}
 use Rattle.fm_cong.specs.States.{class_in, root_in}
 use Rattle.fm_cong.specs.declared.fact.Fact.{Fact}
+use Rattle.fm_cong.proofs.Tracing.{tracked_none}
 use Rattle.fm_cong.proofs.Whole.{AreRead, ready_empty, right_empty, sorts_empty}
 use Rattle.fm_cong.proofs.egraph.Egraph.new.Goals as goal
 
@@ -14,7 +15,8 @@ invariant_of-result c =
     let o = c.new-6.result in
     record {
       sound = search rules;
-      unequal = ap (map numbers_of_pair) c.new-5.ensures.items ∙ sym (ap unequal_of e.facts);
+      unequal = ap (map numbers_of_pair) c.new-5.ensures.pairs ∙ sym (ap unequal_of e.facts);
+      tracked = tracked_none s c.new-5.result c.new-7.result.items c.new-8.result.items c.new-7.ensures.items c.new-8.ensures.items (c.new-5.ensures.indexed (class_in s));
       read = subst (AreRead c.new.result.items) (sym e.facts) (All-nil (λ (f : Fact). JoinsRegistered c.new.result.items f.atom));
       sorts = sorts_empty c.new-2.result.items o c.new.result.items c.new-2.ensures.items c.new-6.ensures.kinds;
       ready = ready_empty o c.new-6.ensures.kinds c.new-6.ensures.fronts;
