@@ -1,0 +1,14 @@
+pub mod Bindings
+pub mod Chains
+pub mod Counting
+pub mod KeepLaw
+pub mod LiftLaw
+pub mod Lifting
+pub mod Made
+pub mod Marked
+pub mod NormalForm
+pub mod NormalLaw
+pub mod NormalSize
+pub mod NormalTruth
+pub mod Places
+pub mod Plain
