@@ -1,0 +1,3 @@
+pub mod Elaborate
+pub mod Tables
+pub mod Scoped
