@@ -1,0 +1,7 @@
+use Rattle.std.proofs.Common.{◌≡◌, map, take}
+use Rattle.fm_bank.specs.Terms.{numbers}
+use Rattle.fm_region.specs.Rows.{number_at}
+use Rattle.fm_region.proofs.strong.named.Given as goal
+
+abbrev pub invariant-loop-c : goal.invariant-loop-c
+invariant-loop-c l = numbers l.list.items ≡ map (number_at (numbers l.terms)) (take l.c-index l.places)

@@ -1,0 +1,6 @@
+pub mod Answers
+pub mod Held
+pub mod Laws
+pub mod Levels
+pub mod Parts
+pub mod Rows

@@ -1,0 +1,22 @@
+//! Regions of the classes of a sort.
+#![tactic(auto)]
+
+mod closing;
+#[cfg(test)]
+mod graphs;
+mod growing;
+#[cfg(test)]
+mod large_tests;
+mod laws;
+mod parts;
+#[cfg(test)]
+mod plain;
+mod regions;
+mod rows;
+mod strong;
+#[cfg(test)]
+mod tests;
+
+pub use laws::{grown_regions_hold_cliques, regions_hold_cliques};
+pub use regions::{Regions, Weak};
+pub use strong::Strong;
