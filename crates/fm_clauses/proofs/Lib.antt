@@ -1,0 +1,16 @@
+pub mod Terms
+pub mod Narrowing
+pub mod Lists
+pub mod Given
+pub mod Literals
+pub mod Reached
+pub mod Proxies
+pub mod Tables
+pub mod ModelLaws
+pub mod Weights
+pub mod Parts
+pub mod Walks
+pub mod Steps
+pub mod Listings
+pub mod Marking
+pub mod Problems
