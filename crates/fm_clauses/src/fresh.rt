@@ -133,7 +133,8 @@ fn push_unmarked(
     sort: usize,
     ranks: &mut Vec<Rank>,
 ) -> Result<(), Memory>
-    ensures { IfOk result (λ _. ranks.new.items ≡ ranks.old.items ++ cond (marked marks.now sort) [] (constant_of sort ∷ [])) }
+    ensures { IfOk result (λ _. ranks.new.items ≡ ranks.old.items ++ cond (marked marks.now sort) []
+        (constant_of sort ∷ [])) }
 {
     if is_marked(marks, sort) {
         return Ok(());
@@ -163,7 +164,8 @@ pub(crate) fn push_fresh(
     clauses: &[Clause],
     ranks: &mut Vec<Rank>,
 ) -> Result<(), Memory>
-    ensures { IfOk result (λ _. ranks.new.items ≡ ranks.old.items ++ fresh_constants sig.now.sorts (has_ground sig.now clauses.now)) }
+    ensures { IfOk result (λ _. ranks.new.items ≡ ranks.old.items ++ fresh_constants sig.now.sorts
+        (has_ground sig.now clauses.now)) }
 {
     let mut marks = Vec::new(alloc);
     marks.resize(sig.sorts, false)?;

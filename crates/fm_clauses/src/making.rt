@@ -32,7 +32,8 @@ pub(crate) fn clausify(
     ranks: &mut Vec<Rank>,
 ) -> Result<(), Memory>
     requires { first < 2 ^ 63 }
-    ensures { IfOk result (λ _. AddsIn ((node formula.now).run scope.now sofar.now) first clauses.old ranks.old clauses.new ranks.new) }
+    ensures { IfOk result (λ _. AddsIn ((node formula.now).run scope.now sofar.now) first clauses.old ranks.old
+        clauses.new ranks.new) }
 {
     match formula {
         Nnf::Lit { positive, atom } => {
@@ -99,7 +100,8 @@ fn clausify_all(
     ranks: &mut Vec<Rank>,
 ) -> Result<(), Memory>
     requires { first < 2 ^ 63 }
-    ensures { IfOk result (λ _. AddsIn (run_all (map node formulas.now) scope.now sofar.now) first clauses.old ranks.old clauses.new ranks.new) }
+    ensures { IfOk result (λ _. AddsIn (run_all (map node formulas.now) scope.now sofar.now) first clauses.old
+        ranks.old clauses.new ranks.new) }
 {
     for formula in formulas {
         clausify(alloc, formula, scope, sofar, first, clauses, ranks)?;
@@ -120,7 +122,8 @@ fn clausify_some(
 ) -> Result<(), Memory>
     requires first { first < 2 ^ 63 }
     requires none { has_always_in (all_parts (map node formulas.now)) ≡ false }
-    ensures { IfOk result (λ _. AddsIn (run_some (all_parts (map node formulas.now)) scope.now sofar.now) first clauses.old ranks.old clauses.new ranks.new) }
+    ensures { IfOk result (λ _. AddsIn (run_some (all_parts (map node formulas.now)) scope.now sofar.now) first
+        clauses.old ranks.old clauses.new ranks.new) }
 {
     let symbol = first + ranks.len();
     let mut lits = copy_literals(alloc, sofar)?;
@@ -143,7 +146,8 @@ fn behind(
 ) -> Result<usize, Memory>
     requires first { first < 2 ^ 63 }
     requires known { symbol + length (proxy_ranks (node formula.now).parts scope.now) ≤ first + length ranks.old.items }
-    ensures { IfOk result (λ next. AddsBehindIn (node formula.now).parts scope.now symbol first clauses.old ranks.old clauses.new ranks.new next) }
+    ensures { IfOk result (λ next. AddsBehindIn (node formula.now).parts scope.now symbol first clauses.old
+        ranks.old clauses.new ranks.new next) }
 {
     match formula {
         Nnf::Lit { .. } => Ok(symbol),
@@ -189,8 +193,10 @@ fn behind_all(
     ranks: &mut Vec<Rank>,
 ) -> Result<usize, Memory>
     requires first { first < 2 ^ 63 }
-    requires known { symbol + length (proxy_ranks (all_parts (map node formulas.now)) scope.now) ≤ first + length ranks.old.items }
-    ensures { IfOk result (λ next. AddsBehindIn (all_parts (map node formulas.now)) scope.now symbol first clauses.old ranks.old clauses.new ranks.new next) }
+    requires known { symbol + length (proxy_ranks (all_parts
+        (map node formulas.now)) scope.now) ≤ first + length ranks.old.items }
+    ensures { IfOk result (λ next. AddsBehindIn (all_parts (map node formulas.now)) scope.now symbol first
+        clauses.old ranks.old clauses.new ranks.new next) }
 {
     let mut next = symbol;
     for formula in formulas {
@@ -211,7 +217,8 @@ fn guarded(
     ranks: &mut Vec<Rank>,
 ) -> Result<(), Memory>
     requires { first < 2 ^ 63 }
-    ensures { IfOk result (λ _. AddsIn ((node formula.now).run scope.now (proxy_of false scope.now symbol ∷ [])) first clauses.old ranks.old clauses.new ranks.new) }
+    ensures { IfOk result (λ _. AddsIn ((node formula.now).run scope.now
+        (proxy_of false scope.now symbol ∷ [])) first clauses.old ranks.old clauses.new ranks.new) }
 {
     let mut sofar = Vec::new(alloc);
     sofar.push(proxy(alloc, false, scope, symbol)?)?;

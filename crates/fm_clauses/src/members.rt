@@ -88,7 +88,8 @@ fn push_proxy(
     ranks: &mut Vec<Rank>,
 ) -> Result<(), Memory>
     requires { first < 2 ^ 63 }
-    ensures literals { IfOk result (λ _. lits.new.items ≡ lits.old.items ++ proxy_of true scope.now (first + length ranks.old.items) ∷ []) }
+    ensures literals { IfOk result (λ _. lits.new.items ≡ lits.old.items ++ proxy_of true scope.now
+        (first + length ranks.old.items) ∷ []) }
     ensures proxies { IfOk result (λ _. ranks.new.items ≡ ranks.old.items ++ proxy_rank scope.now ∷ []) }
 {
     let symbol = first + ranks.len();
@@ -152,7 +153,8 @@ pub(crate) fn push_all_heads(
     ranks: &mut Vec<Rank>,
 ) -> Result<(), Memory>
     requires { first < 2 ^ 63 }
-    ensures { IfOk result (λ _. AddsHeadsIn (all_parts (map node formulas.now)) scope.now first lits.old ranks.old lits.new ranks.new) }
+    ensures { IfOk result (λ _. AddsHeadsIn (all_parts (map node formulas.now)) scope.now first lits.old
+        ranks.old lits.new ranks.new) }
 {
     for formula in formulas {
         push_heads(alloc, formula, scope, first, lits, ranks)?;

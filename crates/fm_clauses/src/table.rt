@@ -81,7 +81,8 @@ fn push_assertion(
     ranks: &mut Vec<Rank>,
 ) -> Result<(), Memory>
     requires { first < 2 ^ 63 }
-    ensures { IfOk result (λ _. AddsIn (assertion_made sig.now formula.now) first clauses.old ranks.old clauses.new ranks.new) }
+    ensures { IfOk result (λ _. AddsIn (assertion_made sig.now formula.now) first clauses.old ranks.old
+        clauses.new ranks.new) }
 {
     let next = next_symbol(first, ranks.len())?;
     let lifted = lift(alloc, sig, formula, next)?;
@@ -100,7 +101,8 @@ fn push_assertions(
     ranks: &mut Vec<Rank>,
 ) -> Result<(), Memory>
     requires { first < 2 ^ 63 }
-    ensures { IfOk result (λ _. AddsIn (assertions_made sig.now formulas.now) first clauses.old ranks.old clauses.new ranks.new) }
+    ensures { IfOk result (λ _. AddsIn (assertions_made sig.now formulas.now) first clauses.old ranks.old
+        clauses.new ranks.new) }
 {
     for formula in formulas {
         push_assertion(alloc, sig, formula, first, clauses, ranks)?;
