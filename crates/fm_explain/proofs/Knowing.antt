@@ -12,7 +12,7 @@ use Rattle.fm_bank.specs.declared.atom.Atom.{Atom}
 use Rattle.fm_cong.specs.Held.{Held, ReadsLiteral, Registers, is_registered}
 use Rattle.fm_cong.specs.declared.fact.Fact.{Fact}
 use Rattle.fm_explain.specs.Explanations.{AreAtomsOf, AreTermsOf, IsKnownBy, term_of}
-use Rattle.fm_explain.specs.Laws.{GoingBackKeeps, GrowingKeeps, NothingIsKnown, OpeningKeeps, ReadingKeeps, RegisteringKeeps}
+use Rattle.fm_explain.specs.Laws.{GoingBackKeeps, GrowingKeeps, NothingIsKnown, OpeningKeeps, ReadingKeeps, RegisteringKeeps, SettlingKeeps}
 
 pub nothing_known : NothingIsKnown
 nothing_known bank = record { terms = All-nil (λ (s : Shape). slice_get bank.terms s.number ≡ Some (term_of s)); atoms = All-nil (λ (f : Fact). slice_get bank.atoms f.lit.atom.0 ≡ Some f.atom); levels = All-nil (AreAtomsOf bank.atoms) }
@@ -68,6 +68,13 @@ growing_keeps g old new k terms atoms =
       atoms = same g.facts k.atoms;
       levels = All-weaker (AreAtomsOf old.atoms) (AreAtomsOf new.atoms) same g.levels k.levels;
     }
+
+pub settling_keeps : SettlingKeeps
+settling_keeps g h bank k e = record {
+  terms = subst (AreTermsOf bank.terms) (sym (ap (λ (x : Held). x.shapes) e)) k.terms;
+  atoms = subst (AreAtomsOf bank.atoms) (sym (ap (λ (x : Held). x.facts) e)) k.atoms;
+  levels = subst (λ (ls : List (List Fact)). All (AreAtomsOf bank.atoms) ls) (sym (ap (λ (x : Held). x.levels) e)) k.levels;
+}
 
 pub opening_keeps : OpeningKeeps
 opening_keeps g h bank k shapes facts levels =

@@ -2,7 +2,7 @@
 use Rattle.std.specs.Prelude.{◌≡◌, ℕ, ◌<◌, ◌++◌, ◌∷◌, [], Bool, length, slice_get, take, Some}
 use Rattle.fm_base.specs.declared.ids.AtomId.{AtomId}
 use Rattle.fm_bank.specs.Interning.{Held as Bank, IsFront}
-use Rattle.fm_cong.specs.Held.{Held, ReadsLiteral, Registers, nothing}
+use Rattle.fm_cong.specs.Held.{Held, ReadsLiteral, Registers, all_entered, nothing}
 use Rattle.fm_explain.specs.Explanations.{IsKnownBy}
 
 -- a graph without terms
@@ -16,6 +16,10 @@ RegisteringKeeps = (g h : Held) (bank : Bank) (n : ℕ) → IsKnownBy g bank →
 -- a literal on an atom of the bank is read
 abbrev pub ReadingKeeps : Type 0
 ReadingKeeps = (g h : Held) (bank : Bank) (atom : AtomId) (positive : Bool) → IsKnownBy g bank → atom.0 < length bank.atoms → ReadsLiteral g h bank.atoms atom positive → IsKnownBy h bank
+
+-- late terms are entered
+abbrev pub SettlingKeeps : Type 0
+SettlingKeeps = (g h : Held) (bank : Bank) → IsKnownBy g bank → h ≡ all_entered g h.links → IsKnownBy h bank
 
 -- the bank gets more terms and atoms
 abbrev pub GrowingKeeps : Type 0
