@@ -16,17 +16,19 @@ use Rattle.fm_script.specs.Shown.{Name, name_shown}
 use Rattle.fm_arena.specs.Kept.{IsAdded}
 use Rattle.fm_arena.specs.Meanings.{Term, definition_made, term_in, terms_of}
 use Rattle.fm_arena.specs.declared.node.Entry.{Entry}
-use Rattle.fm_terms.specs.Elaborate.{Answer, Attribute as TheAttribute, Context, Function as TheFunction, Named, Read, and_then, attribute_at, attribute_before, attributes_at, attributes_of, in_force, is_core, is_kept_for_solvers, is_own, is_taken, named_at, none_read, read_of, refused, with_name}
-use Rattle.fm_terms.specs.Scoped.{AreBelow, AreValuesWithin, IsRead, IsValueBefore, IsValueWithin, Moment, Numbered, attribute_shown, attributes_shown, context_of, functions_in, given_name, named_in, number_term, read_in, read_shown}
-use Rattle.fm_terms.specs.Tables.{has}
+use Rattle.fm_apply.specs.Applied.{Context, Function as TheFunction, Named, and_then, in_force, is_core, is_kept_for_solvers, is_own, is_taken, refused}
+use Rattle.fm_apply.specs.Scoped.{AreBelow, Moment, Numbered, context_of, functions_in, named_in, number_term}
+use Rattle.fm_apply.specs.Tables.{has}
+use Rattle.fm_apply.specs.declared.scope.Found.{Found}
+use Rattle.fm_apply.specs.declared.scope.Frame.{Frame}
+use Rattle.fm_apply.specs.declared.scope.Scope.{Scope}
+use Rattle.fm_apply.specs.declared.table.Function.{Function}
+use Rattle.fm_apply.proofs.Adding.{refused_shown}
+use Rattle.fm_apply.proofs.Growing.{below_stays, grows_added, grows_longer, last_below, last_term, named_stays, term_stays}
+use Rattle.fm_apply.proofs.Naming.{any_in_force, given_functions}
+use Rattle.fm_terms.specs.Elaborate.{Answer, Attribute as TheAttribute, Read, attribute_at, attribute_before, attributes_at, attributes_of, named_at, none_read, read_of, with_name}
+use Rattle.fm_terms.specs.Scoped.{AreValuesWithin, IsRead, IsValueBefore, IsValueWithin, attribute_shown, attributes_shown, given_name, read_in, read_shown}
 use Rattle.fm_terms.specs.declared.attributes.Attribute.{Attribute}
-use Rattle.fm_terms.specs.declared.scope.Found.{Found}
-use Rattle.fm_terms.specs.declared.scope.Frame.{Frame}
-use Rattle.fm_terms.specs.declared.scope.Scope.{Scope}
-use Rattle.fm_terms.specs.declared.table.Function.{Function}
-use Rattle.fm_terms.proofs.Adding.{refused_shown}
-use Rattle.fm_terms.proofs.Growing.{below_stays, grows_added, grows_longer, last_below, last_term, named_stays, term_stays}
-use Rattle.fm_terms.proofs.Naming.{any_in_force, given_functions}
 use Rattle.fm_terms.proofs.Stepping.{below_append}
 
 -- a name is given
@@ -34,14 +36,6 @@ use Rattle.fm_terms.proofs.Stepping.{below_append}
 or_parts : (a b : Bool) → (a || b) ≡ false → b ≡ false
 or_parts true b h = cc
 or_parts false b h = h
-
-pub or_left : (a b : Bool) → a ≡ true → a ≡ (a || b)
-or_left true b h = refl
-or_left false b h = cc
-
-pub or_right : (a b : Bool) → a ≡ false → b ≡ (a || b)
-or_right true b h = cc
-or_right false b h = refl
 
 given_chosen : (b : Bool) (x y : Answer) → b ≡ true → cond b x y ≡ x
 given_chosen true x y h = refl

@@ -1,11 +1,5 @@
-pub mod Growing
-pub mod Adding
-pub mod Applying
-pub mod Chaining
-pub mod Heads
 pub mod Nesting
 pub mod Naming
 pub mod Stepping
 pub mod Attaching
-pub mod Framing
 pub mod Checking

@@ -1,5 +1,4 @@
 -- Each step of the recursion over items: terms one after the other, applications, `let`, blocks and attributes.
-use Rattle.fm_terms.specs.declared.scope.Frame
 use Rattle.std.proofs.Common.{Bool, List, [], ap, append-nil, append_assoc, arith, drop, false, get_or, length, map, refl, subst, suc, sym, true, zero, ℕ, ◌++◌, ◌+◌, ◌<◌, ◌∙◌, ◌∷◌, ◌≡◌, ◌≤◌}
 use Rattle.std.specs.Prelude.{Err, IfSome, None, Ok, Option, Result, Some, cond, max, min}
 use Rattle.std.proofs.lemmas.Bool.{and_parts}
@@ -19,14 +18,17 @@ use Rattle.fm_script.specs.Shown.{IsShownBy, Name}
 use Rattle.fm_arena.specs.Kept.{IsAdded}
 use Rattle.fm_arena.specs.Meanings.{Making, Term, made, name_made, named, term_in, terms_of}
 use Rattle.fm_arena.specs.declared.node.Entry.{Entry}
-use Rattle.fm_terms.specs.Elaborate.{Answer, Attribute as TheAttribute, Bound, Context, Function as TheFunction, Go, Named, Read, Reads, all_at, and_then, annotated_at, annotated_with, application_at, applied_to, attributes_at, attributes_of, bound_to, by_bound, closes_at, constant_of, elaborated, function_named, in_force, items_in, let_over, let_with, nesting, nesting_all, newest_from, none_read, or_else, outside, quantified_at, quantifier_over, read_at, read_of, repeated, term_at, term_step, unless_repeated, variables_named, with_bound, with_read, word_at}
-use Rattle.fm_terms.specs.Scoped.{AllBelow, AreBelow, AreInForce, Grows, IsElaborated, IsMade, IsRead, IsReady, IsShown, IsTerm, Leaves, Moment, Numbered, attributes_shown, bound_in, bound_to_terms, context_in, context_of, context_under, functions_in, lower, named_in, names_in, names_of, newest_number, number_term, parameters_from, places_in, read_shown, reads_shown, terms_at, variables_from, zipped}
+use Rattle.fm_apply.specs.declared.scope.Frame
+use Rattle.fm_apply.specs.Applied.{Bound, Context, Function as TheFunction, Named, and_then, constant_of, function_named, in_force, or_else}
+use Rattle.fm_apply.specs.Scoped.{AllBelow, AreBelow, AreInForce, Grows, IsMade, IsReady, IsShown, IsTerm, Moment, Numbered, bound_in, context_in, context_of, functions_in, lower, named_in, names_in, newest_number, number_term, places_in, terms_at, zipped}
+use Rattle.fm_apply.specs.declared.scope.Found.{Found}
+use Rattle.fm_apply.specs.declared.scope.Frame.{Frame}
+use Rattle.fm_apply.specs.declared.scope.Scope.{Scope}
+use Rattle.fm_apply.proofs.Framing.{names_inside, names_top, places_inside}
+use Rattle.fm_apply.proofs.Growing.{context_stays, functions_stay, grows_added, grows_longer, in_force_stays, last_below, last_term, named_stays, terms_stay}
+use Rattle.fm_terms.specs.Elaborate.{Answer, Attribute as TheAttribute, Go, Read, Reads, all_at, annotated_at, annotated_with, application_at, applied_to, attributes_at, attributes_of, bound_to, by_bound, closes_at, elaborated, items_in, let_over, let_with, nesting, nesting_all, newest_from, none_read, outside, quantified_at, quantifier_over, read_at, read_of, repeated, term_at, term_step, unless_repeated, variables_named, with_bound, with_read, word_at}
+use Rattle.fm_terms.specs.Scoped.{IsElaborated, IsRead, Leaves, attributes_shown, bound_to_terms, context_under, names_of, parameters_from, read_shown, reads_shown, variables_from}
 use Rattle.fm_terms.specs.declared.attributes.Attribute.{Attribute}
-use Rattle.fm_terms.specs.declared.scope.Found.{Found}
-use Rattle.fm_terms.specs.declared.scope.Frame.{Frame}
-use Rattle.fm_terms.specs.declared.scope.Scope.{Scope}
-use Rattle.fm_terms.proofs.Framing.{names_inside, names_top, places_inside}
-use Rattle.fm_terms.proofs.Growing.{context_stays, functions_stay, grows_added, grows_longer, in_force_stays, last_below, last_term, named_stays, terms_stay}
 
 abbrev pub now_all : List (Bor Sexp) → List Sexp
 now_all xs = map (λ (b : Bor Sexp). b.now) xs

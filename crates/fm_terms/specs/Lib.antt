@@ -1,3 +1,2 @@
 pub mod Elaborate
-pub mod Tables
 pub mod Scoped

@@ -4,28 +4,23 @@ ghost use Rattle.fm_sexp.specs.Items.{all_within, spans_within};
 ghost use Rattle.fm_script.specs.Commands.{members_of, name_of};
 ghost use Rattle.fm_script.specs.Shown.{name_shown};
 ghost use Rattle.fm_arena.specs.Meanings.{terms_of};
-ghost use Rattle.fm_terms.specs.Elaborate.{all_at, annotated_at, application_at, by_bound, constant_of, core_constant};
-ghost use Rattle.fm_terms.specs.Elaborate.{elaborated};
-ghost use Rattle.fm_terms.specs.Elaborate.{let_at, let_with, list_at, nesting, nesting_all};
+ghost use Rattle.fm_apply.specs.Scoped.{AreInForce, Grows, IsReady};
+ghost use Rattle.fm_terms.specs.Elaborate.{all_at, annotated_at, application_at, by_bound, elaborated};
+ghost use Rattle.fm_terms.specs.Elaborate.{is_word as is_word_of, let_at, let_with, list_at, nesting, nesting_all};
 ghost use Rattle.fm_terms.specs.Elaborate.{quantifier_at, quantifier_with, word_at};
-ghost use Rattle.fm_terms.specs.Scoped.{AreInForce, ArePairsWithin, Elaborates, ElaboratesAll, Grows, IsElaborated};
-ghost use Rattle.fm_terms.specs.Scoped.{IsInForce, IsReady, IsThere, Leaves, LeavesAll, LeavesGiven, Makes, MakesIn};
-ghost use Rattle.fm_terms.specs.Scoped.{ReadsAs};
-ghost use Rattle.fm_terms.specs.Scoped.{context_under, deeper_of, function_in, lone_at, shown_pairs};
-ghost use Rattle.fm_terms.specs.declared.scope.Frame.{Frame as TheFrame};
+ghost use Rattle.fm_terms.specs.Scoped.{ArePairsWithin, Elaborates, ElaboratesAll, IsElaborated, Leaves, LeavesAll};
+ghost use Rattle.fm_terms.specs.Scoped.{LeavesGiven, ReadsAs, context_under, deeper_of, shown_pairs};
 
-use crate::application::function;
 use crate::attributes::{attribute_all, attributes};
-use crate::making::{make, stand, use_definition};
 use crate::pairs::{distinct_names, items_of, pairs};
-use crate::refusing::refuse;
-use crate::scope::{Found, Frame, Scope, count, newest, outside, past_all, places, within_let};
-use crate::table::{Function, NameSet, Table};
 use crate::variables::{
     Variables, block_variables, close, parameter_names, variable_names, variable_pairs,
 };
-use crate::words::{is_operator, is_word};
-use fm_arena::{Arena, Op};
+use fm_apply::{
+    Found, Frame, NameSet, Scope, Table, constant, count, function, newest, outside, past_all,
+    places, refuse, within_let,
+};
+use fm_arena::Arena;
 use fm_base::{Fail, Place, Reason, Ty};
 use fm_script::{Part, members, name, place, references, symbol};
 use fm_sexp::Sexp;
@@ -45,72 +40,6 @@ pub struct Args {
 pub struct Elaborated<'a> {
     pub number: usize,
     pub given: Table<'a, usize>,
-}
-
-// A word of Core.
-fn core_word(
-    alloc: Global,
-    scope: &Scope<'_, '_>,
-    arena: &mut Arena,
-    part: Part,
-) -> Result<usize, Fail>
-    ensures answer { Makes scope.now arena.new result (λ c. core_constant c (name_shown part.entry)) }
-    ensures grows { Grows arena.old arena.new }
-    ensures below { IsThere arena.new result }
-{
-    if part.bytes == b"true".as_slice() {
-        return make(scope, arena, Op::Truth(true), Ty::Bool, Items::new(alloc));
-    }
-    if part.bytes == b"false".as_slice() {
-        return make(scope, arena, Op::Truth(false), Ty::Bool, Items::new(alloc));
-    }
-    if is_operator(part.bytes) {
-        return Err(refuse(Reason::Arity, part.at));
-    }
-    Err(refuse(Reason::UnknownSymbol, part.at))
-}
-
-// A function in force that stands without arguments.
-fn lone(
-    alloc: Global,
-    scope: &Scope<'_, '_>,
-    arena: &mut Arena,
-    function: &Function,
-    part: Part,
-) -> Result<usize, Fail>
-    requires right { IsInForce (terms_of arena.old) function.now }
-    ensures answer { (name : List ℕ) → Makes scope.now arena.new result
-        (λ c. constant_of c (name_shown part.entry) (Some (function_in (terms_of arena.old) name function.now))) }
-    ensures grows { Grows arena.old arena.new }
-    ensures below { IsThere arena.new result }
-{
-    if function.args.len() > 0 {
-        return Err(refuse(Reason::Arity, part.at));
-    }
-    stand(alloc, scope, arena, function, Items::new(alloc))
-}
-
-// A name that isn't bound, as a term.
-fn constant(
-    alloc: Global,
-    scope: &Scope<'_, '_>,
-    arena: &mut Arena,
-    given: &Table<'_, usize>,
-    part: Part,
-) -> Result<usize, Fail>
-    requires ready { AreInForce (terms_of arena.old) scope.now.functions.now }
-    ensures answer { (f : TheFrame) → MakesIn (scope.now, f) (arena.old, given.now) arena.new result
-        (λ c fs. lone_at c fs (name_shown part.entry)) }
-    ensures grows { Grows arena.old arena.new }
-    ensures below { IsThere arena.new result }
-{
-    match scope.functions.get(part.bytes) {
-        Some(function) => lone(alloc, scope, arena, function, part),
-        None => match given.get(part.bytes) {
-            Some(number) => use_definition(alloc, scope, arena, *number, Items::new(alloc)),
-            None => core_word(alloc, scope, arena, part),
-        },
-    }
 }
 
 // A name that isn't bound.
@@ -170,6 +99,16 @@ fn parts(item: &Sexp) -> Option<&[Sexp]>
     match item {
         Sexp::Word { .. } => None,
         Sexp::List { items, .. } => Some(items.as_slice()),
+    }
+}
+
+// Whether a head is a word.
+fn is_word(head: Option<&[u8]>, word: &[u8]) -> bool
+    ensures { result ≡ is_word_of (option_map (λ s. s.now) head.entry) word.now }
+{
+    match head {
+        None => false,
+        Some(head) => head == word,
     }
 }
 

@@ -1,13 +1,13 @@
-ghost use Rattle.std.specs.Prelude.{◌≡◌, ◌≤◌, [], true, length, map, IfOk, IfSome, MatchOption, Some, None, Ok};
+ghost use Rattle.std.specs.Prelude.{◌≡◌, ◌≤◌, [], true, length, map, IfOk, IfSome, Some, None, Ok};
 ghost use Rattle.std.specs.Option.{option_map};
 ghost use Rattle.fm_sexp.specs.Items.{spans_within, all_within};
 ghost use Rattle.fm_script.specs.Shown.{IsShownBy, name_shown};
-ghost use Rattle.fm_terms.specs.Elaborate.{items_in, nesting, nesting_all, pair_of, pairs_of};
-ghost use Rattle.fm_terms.specs.Elaborate.{repeated, unless_repeated};
-ghost use Rattle.fm_terms.specs.Scoped.{IsMade, names_of, shown_pairs, ArePairsWithin, ArePairsNested};
+ghost use Rattle.fm_apply.specs.Scoped.{IsMade};
+ghost use Rattle.fm_terms.specs.Elaborate.{items_in, nesting, nesting_all, pair_of, pairs_of, repeated};
+ghost use Rattle.fm_terms.specs.Elaborate.{unless_repeated};
+ghost use Rattle.fm_terms.specs.Scoped.{names_of, shown_pairs, ArePairsWithin, ArePairsNested};
 
-use crate::refusing::refuse;
-use crate::table::NameSet;
+use fm_apply::{NameSet, refuse};
 use fm_base::{Fail, Reason};
 use fm_script::{Part, name};
 use fm_sexp::Sexp;

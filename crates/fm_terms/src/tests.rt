@@ -3,11 +3,11 @@ ghost use Rattle.fm_base.specs.Truth.{is_bool};
 ghost use Rattle.fm_sexp.specs.Items.{all_within, bars_of, spans_within};
 ghost use Rattle.fm_arena.specs.Trees.{all_things};
 ghost use Rattle.fm_arena.specs.Meanings.{terms_of};
-ghost use Rattle.fm_terms.specs.Scoped.{AreInForce, IsInForce};
+ghost use Rattle.fm_apply.specs.Scoped.{AreInForce, IsInForce};
 
-use crate::application::same_type;
 use crate::shown::{shown, shown_fail};
 use crate::{Elaborated, Function, NameSet, Scope, Stands, Table, distinct_names, elaborate};
+use fm_apply::same_type;
 use fm_arena::Arena;
 use fm_base::{Fail as Failure, Memory, Place, SortId, SymId, Ty};
 use fm_script::{Command, Part, name, read_command};

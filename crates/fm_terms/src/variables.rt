@@ -3,15 +3,13 @@ ghost use Rattle.std.specs.Option.{option_copied};
 ghost use Rattle.fm_sexp.specs.Items.{spans_within, all_within};
 ghost use Rattle.fm_script.specs.Commands.{name_of, parameters_of, place_of_item};
 ghost use Rattle.fm_script.specs.Shown.{IsShownBy};
+ghost use Rattle.fm_apply.specs.Scoped.{AllAreThere, Grows, IsMade, IsShown, IsThere, number_term, sorts_in, terms_at};
 ghost use Rattle.fm_terms.specs.Elaborate.{quantified_at, variable_sort as variable_sort_of, variable_sort_in};
 ghost use Rattle.fm_terms.specs.Elaborate.{variable_sorts, variables_at};
-ghost use Rattle.fm_terms.specs.Scoped.{AllAreThere, ArePairsWithin, Closes, Grows, IsMade, IsShown, IsThere, names_of};
-ghost use Rattle.fm_terms.specs.Scoped.{number_term, parameters_from, shown_pairs, sorts_in, terms_at, variables_from};
+ghost use Rattle.fm_terms.specs.Scoped.{ArePairsWithin, Closes, names_of, parameters_from, shown_pairs, variables_from};
 
 use crate::pairs::distinct_names;
-use crate::refusing::refuse;
-use crate::scope::Scope;
-use crate::table::NameSet;
+use fm_apply::{NameSet, Scope, refuse};
 use fm_arena::Arena;
 use fm_base::{Fail, Place, Reason, SortId, Ty};
 use fm_script::{Part, name, parameters, place};

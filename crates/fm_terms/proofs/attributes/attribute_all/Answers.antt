@@ -1,10 +1,12 @@
 use Rattle.std.proofs.Common.{arith, length, subst, ◌<◌, ◌≡◌}
 use Rattle.std.specs.Prelude.{Err, Ok}
 use Rattle.fm_arena.specs.Meanings.{terms_of}
-use Rattle.fm_terms.specs.Elaborate.{Context, Read, attribute_at}
-use Rattle.fm_terms.specs.Scoped.{IsRead, Moment, attribute_shown, context_of, named_in, names_in, places_in, read_in}
+use Rattle.fm_apply.specs.Applied.{Context}
+use Rattle.fm_apply.specs.Scoped.{Moment, context_of, named_in, names_in, places_in}
+use Rattle.fm_apply.proofs.Growing.{context_stays, grows_trans}
+use Rattle.fm_terms.specs.Elaborate.{Read, attribute_at}
+use Rattle.fm_terms.specs.Scoped.{IsRead, attribute_shown, read_in}
 use Rattle.fm_terms.proofs.Attaching.{attributes_go, attributes_halt, values_next}
-use Rattle.fm_terms.proofs.Growing.{context_stays, grows_trans}
 use Rattle.fm_terms.proofs.attributes.attribute_all.Goals as goal
 
 pub take_attribute-requires-clause-within : goal.take_attribute-requires-clause-within

@@ -1,7 +1,8 @@
 use Rattle.std.proofs.Common.{drop, length, ◌<◌, ◌≡◌}
 use Rattle.fm_arena.specs.Meanings.{terms_of}
+use Rattle.fm_apply.specs.Scoped.{AreBelow, Grows, context_of, named_in}
 use Rattle.fm_terms.specs.Elaborate.{attributes_at}
-use Rattle.fm_terms.specs.Scoped.{AreBelow, AreValuesWithin, Grows, attributes_shown, context_of, named_in, read_in}
+use Rattle.fm_terms.specs.Scoped.{AreValuesWithin, attributes_shown, read_in}
 use Rattle.fm_terms.proofs.attributes.attribute_all.Given as goal
 
 abbrev pub invariant-loop-one : goal.invariant-loop-one

@@ -1,8 +1,9 @@
 use Rattle.std.proofs.Common.{[], refl, sym, ◌∙◌}
 use Rattle.fm_script.specs.Shown.{name_shown}
 use Rattle.fm_arena.specs.Meanings.{terms_of}
-use Rattle.fm_terms.specs.Scoped.{context_in, context_of, named_in, names_in, places_in, read_in}
-use Rattle.fm_terms.specs.Tables.{has}
+use Rattle.fm_apply.specs.Scoped.{context_in, context_of, named_in, names_in, places_in}
+use Rattle.fm_apply.specs.Tables.{has}
+use Rattle.fm_terms.specs.Scoped.{read_in}
 use Rattle.fm_terms.proofs.Attaching.{given_added, given_below, given_refused, not_there, now_given}
 use Rattle.fm_terms.proofs.attributes.give.Goals as goal
 

@@ -1,8 +1,9 @@
 use Rattle.std.proofs.Common.{arith, sym, ◌≤◌}
 use Rattle.fm_script.specs.Shown.{name_shown}
 use Rattle.fm_arena.specs.Meanings.{terms_of}
+use Rattle.fm_apply.specs.Scoped.{context_of, named_in, names_in}
 use Rattle.fm_terms.specs.Elaborate.{Read, none_read}
-use Rattle.fm_terms.specs.Scoped.{context_of, named_in, names_in, read_in}
+use Rattle.fm_terms.specs.Scoped.{read_in}
 use Rattle.fm_terms.proofs.Attaching.{named_passed}
 use Rattle.fm_terms.proofs.Stepping.{none_is, read_by}
 use Rattle.fm_terms.proofs.attributes.named.Goals as goal

@@ -6,10 +6,12 @@ use Rattle.fm_sexp.specs.declared.items.Sexp.{Sexp}
 use Rattle.fm_script.specs.Commands.{name_of}
 use Rattle.fm_script.specs.Shown.{name_shown}
 use Rattle.fm_arena.specs.Meanings.{terms_of}
-use Rattle.fm_terms.specs.Elaborate.{Answer, Attribute as TheAttribute, Context, Read, Reads, all_at, and_then, attributes_at, attributes_of, closes_at, function_at, function_named, in_force, items_in, list_at, nesting, nesting_all, none_read, outside, quantified_at, term_at, word_at}
-use Rattle.fm_terms.specs.Scoped.{AllBelow, IsRead, IsShown, IsTerm, Moment, attributes_shown, context_of, lower, named_in, names_in, number_term, places_in, read_in, read_shown, reads_shown, shown_pairs, terms_at, variables_from}
+use Rattle.fm_apply.specs.Applied.{Context, and_then, function_at, function_named, in_force}
+use Rattle.fm_apply.specs.Scoped.{AllBelow, IsShown, IsTerm, Moment, context_of, lower, named_in, names_in, number_term, places_in, terms_at}
+use Rattle.fm_apply.proofs.Growing.{below_stays, context_stays, grows_longer, grows_refl, grows_trans, in_force_stays, named_stays, ready_stays}
+use Rattle.fm_terms.specs.Elaborate.{Answer, Attribute as TheAttribute, Read, Reads, all_at, attributes_at, attributes_of, closes_at, items_in, list_at, nesting, nesting_all, none_read, outside, quantified_at, term_at, word_at}
+use Rattle.fm_terms.specs.Scoped.{IsRead, attributes_shown, read_in, read_shown, reads_shown, shown_pairs, variables_from}
 use Rattle.fm_terms.specs.declared.attributes.Attribute.{Attribute}
-use Rattle.fm_terms.proofs.Growing.{below_stays, context_stays, grows_longer, grows_refl, grows_trans, in_force_stays, named_stays, ready_stays}
 use Rattle.fm_terms.proofs.Nesting.{lent_nests, shown_length}
 use Rattle.fm_terms.proofs.Stepping.{block_made, all_start, all_step, all_stopped, annotated_made, application_made, application_stopped, below_more, block_context, block_read, first_nests, inner_ready, leaves_as, length_bound, let_context, let_made, let_read, let_stopped, names_are, names_push, none_is, now_all, read_by, read_made, read_stopped, shown_long, shown_some, term_by, then_stopped, within_next}
 use Rattle.fm_terms.proofs.elaboration.+elaboration.Goals as goal

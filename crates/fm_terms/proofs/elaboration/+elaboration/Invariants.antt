@@ -1,8 +1,10 @@
 use Rattle.std.proofs.Common.{drop, length, map, true, ℕ, ◌*◌, ◌+◌, ◌<◌, ◌≡◌, ◌≤◌}
 use Rattle.fm_sexp.specs.Items.{all_within}
 use Rattle.fm_arena.specs.Meanings.{terms_of}
-use Rattle.fm_terms.specs.Elaborate.{all_at, and_then, nesting, nesting_all, term_at}
-use Rattle.fm_terms.specs.Scoped.{AllBelow, AreBelow, Grows, context_of, deeper_of, named_in, names_in, terms_at}
+use Rattle.fm_apply.specs.Applied.{and_then}
+use Rattle.fm_apply.specs.Scoped.{AllBelow, AreBelow, Grows, context_of, named_in, names_in, terms_at}
+use Rattle.fm_terms.specs.Elaborate.{all_at, nesting, nesting_all, term_at}
+use Rattle.fm_terms.specs.Scoped.{deeper_of}
 use Rattle.fm_terms.proofs.Stepping.{behind, now_all}
 use Rattle.fm_terms.proofs.elaboration.+elaboration.Given as goal
 

@@ -1,7 +1,7 @@
 use Rattle.std.proofs.Common.{ap, arith, length, refl, ◌+◌, ◌<◌}
 use Rattle.fm_arena.specs.Meanings.{terms_of}
+use Rattle.fm_apply.specs.Scoped.{named_in}
 use Rattle.fm_terms.specs.Elaborate.{nesting}
-use Rattle.fm_terms.specs.Scoped.{named_in}
 use Rattle.fm_terms.proofs.Stepping.{elaborated_as, elaborated_under, top_context, top_ready}
 use Rattle.fm_terms.proofs.elaboration.elaborate.Goals as goal
 

@@ -1,8 +1,8 @@
 use Rattle.std.proofs.Common.{sym}
 use Rattle.fm_script.specs.Shown.{name_shown}
 use Rattle.fm_arena.specs.Meanings.{terms_of}
-use Rattle.fm_terms.specs.Scoped.{context_of, named_in, names_in}
-use Rattle.fm_terms.proofs.Growing.{below_stays, named_stays}
+use Rattle.fm_apply.specs.Scoped.{context_of, named_in, names_in}
+use Rattle.fm_apply.proofs.Growing.{below_stays, named_stays}
 use Rattle.fm_terms.proofs.Stepping.{leaves_as, length_bound, unbound_made}
 use Rattle.fm_terms.proofs.elaboration.unbound.Goals as goal
 

@@ -3,8 +3,8 @@ use Rattle.std.specs.Prelude.{Ok, Option, Result}
 use Rattle.fm_base.specs.declared.refusal.Refusal.{Refusal}
 use Rattle.fm_script.specs.Shown.{name_shown}
 use Rattle.fm_arena.specs.Meanings.{terms_of}
-use Rattle.fm_terms.specs.Scoped.{context_of, named_in, names_in}
-use Rattle.fm_terms.specs.declared.scope.Found.{Found}
+use Rattle.fm_apply.specs.Scoped.{context_of, named_in, names_in}
+use Rattle.fm_apply.specs.declared.scope.Found.{Found}
 use Rattle.fm_terms.proofs.Stepping.{found_below, read_by, word_found, word_unbound}
 use Rattle.fm_terms.proofs.elaboration.word.Goals as goal
 

@@ -1,6 +1,6 @@
 use Rattle.std.proofs.Common.{drop}
 use Rattle.fm_arena.specs.Meanings.{terms_of}
-use Rattle.fm_terms.specs.Scoped.{AreInForce}
+use Rattle.fm_apply.specs.Scoped.{AreInForce}
 use Rattle.fm_terms.proofs.tests.all_stand_well.Given as goal
 
 abbrev pub invariant-loop-place : goal.invariant-loop-place

@@ -2,7 +2,7 @@ use Rattle.std.proofs.Common.{arith, get_or, length, ◌<◌}
 use Rattle.std.proofs.lemmas.List.{drop_more}
 use Rattle.fm_base.specs.declared.signature.Ty.{Ty}
 use Rattle.fm_arena.specs.Meanings.{name_made}
-use Rattle.fm_terms.proofs.Growing.{grows_added, grows_trans}
+use Rattle.fm_apply.proofs.Growing.{grows_added, grows_trans}
 use Rattle.fm_terms.proofs.Stepping.{names_below, parameter_step}
 use Rattle.fm_terms.proofs.variables.parameter_names.Goals as goal
 

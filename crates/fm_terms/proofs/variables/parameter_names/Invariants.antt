@@ -1,5 +1,6 @@
 use Rattle.std.proofs.Common.{drop, ◌++◌, ◌≡◌}
-use Rattle.fm_terms.specs.Scoped.{AllAreThere, Grows, parameters_from, terms_at}
+use Rattle.fm_apply.specs.Scoped.{AllAreThere, Grows, terms_at}
+use Rattle.fm_terms.specs.Scoped.{parameters_from}
 use Rattle.fm_terms.proofs.variables.parameter_names.Given as goal
 
 abbrev pub invariant-loop-place : goal.invariant-loop-place

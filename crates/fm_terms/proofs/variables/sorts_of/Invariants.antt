@@ -2,8 +2,10 @@ use Rattle.std.proofs.Common.{List, drop, length, true, ◌++◌, ◌≡◌}
 use Rattle.std.specs.Prelude.{Ok}
 use Rattle.fm_base.specs.declared.ids.SortId.{SortId}
 use Rattle.fm_sexp.specs.Items.{all_within}
-use Rattle.fm_terms.specs.Elaborate.{and_then, items_in, variable_sorts}
-use Rattle.fm_terms.specs.Scoped.{shown_pairs, sorts_in}
+use Rattle.fm_apply.specs.Applied.{and_then}
+use Rattle.fm_apply.specs.Scoped.{sorts_in}
+use Rattle.fm_terms.specs.Elaborate.{items_in, variable_sorts}
+use Rattle.fm_terms.specs.Scoped.{shown_pairs}
 use Rattle.fm_terms.proofs.variables.sorts_of.Given as goal
 
 abbrev pub invariant-loop-pair : goal.invariant-loop-pair

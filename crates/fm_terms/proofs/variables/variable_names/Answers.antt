@@ -3,7 +3,7 @@ use Rattle.std.proofs.lemmas.List.{drop_more}
 use Rattle.fm_base.specs.declared.ids.SortId.{SortId}
 use Rattle.fm_base.specs.declared.signature.Ty.{Ty}
 use Rattle.fm_arena.specs.Meanings.{name_made}
-use Rattle.fm_terms.proofs.Growing.{grows_added, grows_trans}
+use Rattle.fm_apply.proofs.Growing.{grows_added, grows_trans}
 use Rattle.fm_terms.proofs.Stepping.{names_below, variable_step}
 use Rattle.fm_terms.proofs.variables.variable_names.Goals as goal
 

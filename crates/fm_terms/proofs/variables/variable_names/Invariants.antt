@@ -1,5 +1,6 @@
 use Rattle.std.proofs.Common.{drop, ◌++◌, ◌≡◌}
-use Rattle.fm_terms.specs.Scoped.{AllAreThere, Grows, terms_at, variables_from}
+use Rattle.fm_apply.specs.Scoped.{AllAreThere, Grows, terms_at}
+use Rattle.fm_terms.specs.Scoped.{variables_from}
 use Rattle.fm_terms.proofs.variables.variable_names.Given as goal
 
 abbrev pub invariant-loop-sort : goal.invariant-loop-sort

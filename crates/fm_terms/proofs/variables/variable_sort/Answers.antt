@@ -4,7 +4,7 @@ use Rattle.std.specs.Option.{option_copied}
 use Rattle.std.specs.Str.{bytes_eq}
 use Rattle.fm_script.specs.Commands.{place_of_item}
 use Rattle.fm_script.specs.Shown.{name_shown}
-use Rattle.fm_terms.specs.Scoped.{sorts_in}
+use Rattle.fm_apply.specs.Scoped.{sorts_in}
 use Rattle.fm_terms.proofs.Naming.{sort_by, sort_is}
 use Rattle.fm_terms.proofs.variables.variable_sort.Goals as goal
 

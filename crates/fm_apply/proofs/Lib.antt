@@ -1,0 +1,8 @@
+pub mod Growing
+pub mod Cutting
+pub mod Adding
+pub mod Applying
+pub mod Chaining
+pub mod Heads
+pub mod Framing
+pub mod Naming
