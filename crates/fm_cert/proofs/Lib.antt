@@ -1,1 +1,16 @@
+pub mod BlockReads
+pub mod BlockRows
+pub mod FirstRows
+pub mod Gathered
+pub mod Kept
+pub mod NumberText
+pub mod OneValue
+pub mod Outsides
+pub mod PartLaws
+pub mod PartLists
+pub mod PartReads
+pub mod Printable
+pub mod RowLaws
+pub mod Scans
 pub mod Sound
+pub mod Taken

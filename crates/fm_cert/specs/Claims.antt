@@ -4,8 +4,7 @@ use Rattle.fm_base.specs.Interpretations.{Reading, IsInterpretation, reading_of,
 use Rattle.fm_base.specs.Models.{IsModel, sum_of_sizes}
 use Rattle.fm_bank.specs.Clauses.{Satisfies}
 use Rattle.fm_bank.specs.Meaning.{literals_true}
-use Rattle.fm_bank.specs.Terms.{Term, are_terms}
-use Rattle.fm_cert.specs.Lines.{Clause, Problem, AreGoodLines, above}
+use Rattle.fm_cert.specs.Lines.{Clause, Problem, Made, SameSet, nothing, AreGoodLines, above}
 use Rattle.fm_cert.specs.declared.block.Line.{Line}
 use Rattle.fm_cert.specs.declared.block.Block.{Block}
 use Rattle.fm_cert.specs.declared.block.Claim.{Claim}
@@ -23,7 +22,7 @@ pub record HasTable (p : Problem) : Type 0 where
 -- a line's clause is the one literal "the sizes add up to more than n - 1"; below a sum of 0 there is nothing
 abbrev pub ShowsLeast : List Clause → ℕ → Type 0
 ShowsLeast clauses zero = Unit {0}
-ShowsLeast clauses (suc n) = (i : ℕ) × (slice_get clauses i ≡ Some (above n ∷ []))
+ShowsLeast clauses (suc n) = (i : ℕ) × (clause : Clause) × (slice_get clauses i ≡ Some clause) × SameSet clause (above n ∷ [])
 
 -- the ending is good after the clauses of the block's lines
 abbrev pub IsGoodEnding : Problem → List Clause → Claim → Type 0
@@ -32,9 +31,9 @@ IsGoodEnding p clauses (Claim.Sat sum model) = ShowsLeast clauses sum × (is_fit
 IsGoodEnding p clauses (Claim.Unknown instances decisions) = Unit {0}
 
 pub record IsGoodBlock (p : Problem) (block : Block) : Type 0 where
-  pub clauses : List Clause
-  pub lines : AreGoodLines p [] [] block.lines clauses
-  pub ending : IsGoodEnding p clauses block.claim
+  pub made : Made
+  pub lines : AreGoodLines p nothing block.lines made
+  pub ending : IsGoodEnding p made.clauses block.claim
 
 -- the claim of an ending: no model at all; a model of this sum, and none of a smaller; or nothing
 abbrev pub ClaimHolds : Problem → Claim → Type 0
@@ -56,7 +55,9 @@ IsGoodCertificate problems blocks = AreGoodFrom 0 problems blocks
 abbrev pub BlocksAreSound : Type 0
 BlocksAreSound = (p : Problem) (block : Block) → HasTable p → IsGoodBlock p block → ClaimHolds p block.claim
 
--- every clause of good lines over a list of terms holds in every interpretation of the table's symbols that satisfies its
--- clauses, each term having its value there
+-- every clause of good lines holds in every interpretation of the table's symbols that satisfies its clauses, each term
+-- having its value there
 abbrev pub GoodLinesHold : Type 0
-GoodLinesHold = (p : Problem) (m : Reading) (terms : List Term) (lines : List Line) (clauses : List Clause) (i : ℕ) (clause : Clause) → IsInterpretation p.symbols m → are_terms p.symbols terms ≡ true → Satisfies m p.clauses → AreGoodLines p terms [] lines clauses → slice_get clauses i ≡ Some clause → literals_true p.symbols m terms clause ≡ true
+GoodLinesHold =
+    (p : Problem) (m : Reading) (lines : List Line) (made : Made) (i : ℕ) (clause : Clause) → IsInterpretation p.symbols m → Satisfies m p.clauses
+    → AreGoodLines p nothing lines made → slice_get made.clauses i ≡ Some clause → literals_true p.symbols m made.terms clause ≡ true

@@ -1,3 +1,9 @@
+pub mod Blockwise
 pub mod Claims
+pub mod Fits
 pub mod Lines
+pub mod Outside
+pub mod Parts
+pub mod Reading
+pub mod Rows
 pub mod Spelling

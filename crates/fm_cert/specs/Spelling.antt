@@ -5,8 +5,8 @@ use Rattle.fm_base.specs.declared.interp.Interp.{Interp}
 use Rattle.fm_base.specs.declared.interp.Table.{Table}
 use Rattle.fm_base.specs.declared.ids.TermId.{TermId}
 use Rattle.fm_bank.specs.declared.atom.Atom.{Atom}
-use Rattle.fm_bank.specs.declared.literal.Literal.{Literal}
 use Rattle.fm_cert.specs.declared.block.Block.{Block}
+use Rattle.fm_bank.specs.declared.literal.Literal.{Literal}
 use Rattle.fm_cert.specs.declared.block.Claim.{Claim}
 use Rattle.fm_cert.specs.declared.block.Line.{Line}
 
@@ -32,6 +32,9 @@ spelling_of_atom (Atom.Pred t) = codes "P" ++ decimal t.0
 spelling_of_atom (Atom.Card s k) = codes "C" ++ decimal s.0 ++ codes "," ++ decimal k
 spelling_of_atom (Atom.Bound n) = codes "B" ++ decimal n
 
+abbrev pub spelling_of_literal : Literal → List ℕ
+spelling_of_literal l = codes " " ++ spelling_of_sign l.positive ++ spelling_of_atom l.atom
+
 abbrev pub spelling_of_step : (Literal × ℕ) → List ℕ
 spelling_of_step step = codes " " ++ spelling_of_sign step.0.positive ++ spelling_of_atom step.0.atom ++ spelling_of_number step.1
 
@@ -39,6 +42,11 @@ abbrev pub spelling_of_term : TermId → List ℕ
 spelling_of_term t = spelling_of_number t.0
 
 abbrev pub spelling_of_line : Line → List ℕ
+spelling_of_line (Line.Term symbol args) = codes "t" ++ spelling_of_number symbol.0 ++ flat_map spelling_of_term args ++ line_feed
+spelling_of_line (Line.Equality lits support) = codes "e" ++ flat_map spelling_of_literal lits ++ codes " /" ++ flat_map spelling_of_term support ++ line_feed
+spelling_of_line (Line.Cardinality sort k terms) = codes "c" ++ spelling_of_number sort.0 ++ spelling_of_number k ++ flat_map spelling_of_term terms ++ line_feed
+spelling_of_line (Line.OrderCard sort k) = codes "o c" ++ spelling_of_number sort.0 ++ spelling_of_number k ++ line_feed
+spelling_of_line (Line.OrderBound n) = codes "o b" ++ spelling_of_number n ++ line_feed
 spelling_of_line (Line.Instance clause terms) = codes "i" ++ spelling_of_number clause ++ flat_map spelling_of_term terms ++ line_feed
 spelling_of_line (Line.Sum n ks) = codes "s" ++ spelling_of_number n ++ spelling_of_numbers ks ++ line_feed
 spelling_of_line (Line.OrderZero s) = codes "o z" ++ spelling_of_number s.0 ++ line_feed

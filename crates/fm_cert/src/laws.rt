@@ -1,4 +1,6 @@
 ghost use Rattle.fm_cert.specs.Claims.{BlocksAreSound, GoodLinesHold};
+ghost use Rattle.fm_cert.specs.Fits.{ReadBlocksPrint};
+ghost use Rattle.fm_cert.specs.Outside.{NoTextIsBoth, OutsideIsOneLine, SpellingIsOfOne};
 
 /// The claim of a good block holds. It is a law of the definitions and does nothing.
 pub fn blocks_are_sound()
@@ -8,4 +10,24 @@ pub fn blocks_are_sound()
 /// The clauses of good lines hold in every interpretation. It is a law of the definitions and does nothing.
 pub fn good_lines_hold()
     ensures { GoodLinesHold }
+{}
+
+/// A text that blocks spell isn't outside the grammar. It is a law of the definitions and does nothing.
+pub fn not_both()
+    ensures { NoTextIsBoth }
+{}
+
+/// A text leaves the grammar at one line. It is a law of the definitions and does nothing.
+pub fn one_line()
+    ensures { OutsideIsOneLine }
+{}
+
+/// A text is spelled by one list of blocks. It is a law of the definitions and does nothing.
+pub fn one_certificate()
+    ensures { SpellingIsOfOne }
+{}
+
+/// A block that was read can be printed. It is a law of the definitions and does nothing.
+pub fn read_blocks_print()
+    ensures { ReadBlocksPrint }
 {}

@@ -1,7 +1,7 @@
 -- The block that answers a `check-sat` is good, and the clause table says what the assertions say.
 use Rattle.std.proofs.Common.{◌≡◌, ◌≢◌, ℕ, zero, suc, ◌+◌, ◌<◌, ◌≤◌, ◌==◌, inl, inr, Bool, true, false, ◌&&◌, List, [], ◌∷◌, ◌++◌, length, map, replicate, Option, Some, None, is_none, ap, refl, sym, subst, ◌∙◌, arith, add-one, add-zero, zero-add, append_assoc}
 use Rattle.std.specs.Prelude.{nat_le, nat_lt, slice_get, slice_index, All}
-use Rattle.std.specs.List.{list_all}
+use Rattle.std.specs.List.{AllByRecursion, list_all}
 use Rattle.std.specs.Str.{bytes_eq}
 use Rattle.std.proofs.lemmas.Bool.{and_parts, and_from, eq-eqb, eqb-true, lt-ltb, cases_Bool, or_left, or_cases, cond-true, cond-false, false≢true}
 use Rattle.std.proofs.lemmas.List.{append-nil, length-replicate, get_or-replicate}
@@ -21,9 +21,12 @@ use Rattle.fm_base.specs.declared.formula.Formula.{Formula}
 use Rattle.fm_base.specs.declared.signature.Rank.{Rank}
 use Rattle.fm_bank.specs.declared.atom.Atom.{Atom}
 use Rattle.fmf.specs.Scopes.{Told, Declared, nothing, declared_after, is_in_order, are_in_order, is_among, is_declarable, sort_of}
-use Rattle.fm_cert.specs.Lines.{Problem, Clause, Has, Resolves, Chain, at_most, more_than, above, sum_clause, total_above, AreGoodLines}
+use Rattle.fm_cert.specs.Fits.{IsOrderedStep, IsPrintable}
+use Rattle.fm_cert.specs.Lines.{Problem, Clause, Has, SameSet, Made, Resolves, Chain, at_most, more_than, above, sum_clause, total_above, AreGoodLines}
+use Rattle.fm_cert.specs.Lines.{nothing as nothing_made}
 use Rattle.fm_cert.specs.Claims.{ShowsLeast, IsGoodBlock, HasTable}
 use Rattle.fm_bank.specs.declared.literal.Literal.{Literal}
+use Rattle.fm_cert.specs.declared.block.Block.{Block}
 use Rattle.fm_cert.specs.declared.block.Line.{Line}
 use Rattle.fmf.specs.Certified.{constant_zero, one_element_model, orders, zero_steps, lines_of, block_of, refuting_block, answering_block}
 use Rattle.fmf.specs.InForce.{declared_by, number_of, number_in, rank_of, constant, plain_constant, equation_clause, empty_clause, assertions_of, clauses_of, signature_of, problem_in, in_force}
@@ -86,11 +89,20 @@ chain_good sum m b s (suc n) all =
     let at : slice_get (sum ∷ order_clauses 0 m) (s + 1) ≡ Some (more_than s 0 ∷ []) = rw add-one (subst (λ (k : ℕ). slice_get (order_clauses 0 m) s ≡ Some (more_than k 0 ∷ [])) (zero-add s) (order_at 0 m s (omega arith))) in
     (more_than s 0 ∷ [], sum_clause (s + 1) (replicate n 0) b, at, resolves_next s n b, chain_good sum m b (s + 1) n (omega arith))
 
-pub orders_good : (p : Problem) (s n : ℕ) (earlier : List Clause) (rest : List Line) (clauses : List Clause) → s + n ≤ p.symbols.sorts → AreGoodLines p [] (earlier ++ order_clauses s n) rest clauses → AreGoodLines p [] earlier (orders s n ++ rest) clauses
+same_set : (c : Clause) → SameSet c c
+same_set c l = (λ h. h, λ h. h)
+
+-- these clauses are made, and no term
+abbrev pub with_clauses : List Clause → Made
+with_clauses clauses = record { terms = []; clauses = clauses }
+
+pub orders_good : (p : Problem) (s n : ℕ) (earlier : List Clause) (rest : List Line) (end' : Made) → s + n ≤ p.symbols.sorts → AreGoodLines p (with_clauses (earlier ++ order_clauses s n)) rest end' → AreGoodLines p (with_clauses earlier) (orders s n ++ rest) end'
 unfolding orders
-orders_good p s zero earlier rest clauses le good = subst (λ (cs : List Clause). AreGoodLines p [] cs rest clauses) (append-nil earlier) good
-orders_good p s (suc n) earlier rest clauses le good =
-    (more_than s 0 ∷ [], (omega arith, refl), orders_good p (s + 1) n (earlier ++ (more_than s 0 ∷ []) ∷ []) rest clauses (omega arith) (subst (λ (cs : List Clause). AreGoodLines p [] cs rest clauses) (sym (append_assoc earlier ((more_than s 0 ∷ []) ∷ []) (order_clauses (s + 1) n))) good))
+orders_good p s zero earlier rest end' le good = subst (λ (cs : List Clause). AreGoodLines p (with_clauses cs) rest end') (append-nil earlier) good
+orders_good p s (suc n) earlier rest end' le good =
+    let clause = more_than s 0 ∷ [] in
+    let behind = subst (λ (cs : List Clause). AreGoodLines p (with_clauses cs) rest end') (sym (append_assoc earlier (clause ∷ []) (order_clauses (s + 1) n))) good in
+    (with_clauses (earlier ++ clause ∷ []), (clause, (omega arith, same_set clause), refl), orders_good p (s + 1) n (earlier ++ clause ∷ []) rest end' (omega arith) behind)
 
 pub get_last : (cs : List Clause) (c : Clause) → slice_get (cs ++ c ∷ []) (length cs) ≡ Some c
 get_last [] c = refl
@@ -105,17 +117,45 @@ abbrev pub clauses_made : ℕ → List Clause
 clauses_made zero = []
 clauses_made (suc n) = (sum_clause 0 (replicate (suc n) 0) n ∷ order_clauses 0 (suc n)) ++ (above n ∷ []) ∷ []
 
-pub lines_good : (p : Problem) (sorts : ℕ) → p.symbols.sorts ≡ sorts → AreGoodLines p [] [] (lines_of sorts) (clauses_made sorts)
+pub lines_good : (p : Problem) (sorts : ℕ) → p.symbols.sorts ≡ sorts → AreGoodLines p nothing_made (lines_of sorts) (with_clauses (clauses_made sorts))
 lines_good p zero all = refl
 lines_good p (suc n) all =
     let sum = sum_clause 0 (replicate (suc n) 0) n in
     let long : length (replicate (suc n) 0) ≡ p.symbols.sorts = length-replicate (suc n) 0 ∙ sym all in
     let big : n < total_above (replicate (suc n) 0) = omega (arith, total_above-zeros (suc n)) in
-    (sum, (long, big, refl), orders_good p 0 (suc n) (sum ∷ []) (Line.Resolution 0 (zero_steps 0 (suc n)) ∷ []) (clauses_made (suc n)) (omega arith) (above n ∷ [], (some_steps n, (sum, refl, chain_good sum (suc n) n 0 (suc n) (omega arith))), refl))
+    let chain = chain_good sum (suc n) n 0 (suc n) (omega arith) in
+    let resolution = Line.Resolution 0 (zero_steps 0 (suc n)) ∷ [] in
+    let earlier = sum ∷ order_clauses 0 (suc n) in
+    let last : AreGoodLines p (with_clauses earlier) resolution (with_clauses (clauses_made (suc n))) = (with_clauses (clauses_made (suc n)), (above n ∷ [], (some_steps n, (sum, refl, chain)), refl), refl) in
+    (with_clauses (sum ∷ []), (sum, (long, big, same_set sum), refl), orders_good p 0 (suc n) (sum ∷ []) resolution (with_clauses (clauses_made (suc n))) (omega arith) last)
 
 pub shows_least : (sorts : ℕ) → ShowsLeast (clauses_made sorts) sorts
 shows_least zero = tt
-shows_least (suc n) = (length (sum_clause 0 (replicate (suc n) 0) n ∷ order_clauses 0 (suc n)), get_last (sum_clause 0 (replicate (suc n) 0) n ∷ order_clauses 0 (suc n)) (above n ∷ []))
+shows_least (suc n) =
+    let earlier = sum_clause 0 (replicate (suc n) 0) n ∷ order_clauses 0 (suc n) in
+    (length earlier, above n ∷ [], get_last earlier (above n ∷ []), same_set (above n ∷ []))
+
+-- the block can be printed
+orders_printable : (s n : ℕ) (rest : List Line) → AllByRecursion IsPrintable rest → AllByRecursion IsPrintable (orders s n ++ rest)
+unfolding orders
+orders_printable s zero rest h = h
+orders_printable s (suc n) rest h = (tt, orders_printable (s + 1) n rest h)
+
+steps_printable : (s n : ℕ) → AllByRecursion IsOrderedStep (zero_steps s n)
+unfolding zero_steps
+steps_printable s zero = tt
+steps_printable s (suc n) = (tt, steps_printable (s + 1) n)
+
+lines_printable : (sorts : ℕ) → AllByRecursion IsPrintable (lines_of sorts)
+lines_printable zero = tt
+lines_printable (suc n) = (tt, orders_printable 0 (suc n) (Line.Resolution 0 (zero_steps 0 (suc n)) ∷ []) ((some_steps n, steps_printable 0 (suc n)), tt))
+
+block_printable : (number sorts consts : ℕ) (falsity : Option ℕ) → AllByRecursion IsPrintable (answering_block number sorts consts falsity).lines
+block_printable number sorts consts None = lines_printable sorts
+block_printable number sorts consts (Some clause) = (tt, tt)
+
+pub made_printable : (made : Block) (number sorts consts : ℕ) (falsity : Option ℕ) → made ≡ answering_block number sorts consts falsity → AllByRecursion IsPrintable made.lines
+made_printable made number sorts consts falsity e = subst (λ (b : Block). AllByRecursion IsPrintable b.lines) (sym e) (block_printable number sorts consts falsity)
 
 -- the model
 
@@ -277,7 +317,7 @@ block_good past number e none =
     let m = reading_of (one_element_model (length d.sorts) (length d.consts)) in
     let fit = model_fits d past (known_by nothing past refl e) in
     record {
-      clauses = clauses_made (length d.sorts);
+      made = with_clauses (clauses_made (length d.sorts));
       lines = lines_good (problem_in d past) (length d.sorts) refl;
       ending = (
         shows_least (length d.sorts),
@@ -289,8 +329,8 @@ block_good past number e none =
 
 pub refutation_good : (past : List Told) (number clause : ℕ) → falsity_in past ≡ Some clause → IsGoodBlock (in_force past) (refuting_block number clause)
 refutation_good past number clause e = record {
-  clauses = [] ∷ [];
-  lines = ([], (empty_clause, clause_of_falsity (declared_by nothing past) past clause e, refl, refl), refl);
+  made = with_clauses ([] ∷ []);
+  lines = (with_clauses ([] ∷ []), ([], (empty_clause, [], clause_of_falsity (declared_by nothing past) past clause e, (refl, refl), same_set []), refl), refl);
   ending = (0, refl);
 }
 
