@@ -24,14 +24,18 @@ parts s = (s.k, (s.terms.items, s.pairs.items))
 abbrev pub Agrees : (ℕ → ℕ → Bool) → List ℕ → List (ℕ × ℕ) → Type 0
 Agrees apart terms pairs = (c d : ℕ) → c < length terms → d < length terms → apart (number_at terms c) (number_at terms d) ≡ between pairs c d
 
--- the regions are those at the number, by each such test
-abbrev pub AreMadeFrom : Parts → List (List ℕ) → Type 0
-AreMadeFrom p regions = (apart : ℕ → ℕ → Bool) → Agrees apart (numbers p.1.0) p.1.1 → regions ≡ regions_at apart (numbers p.1.0) p.0
+-- by each such test
+abbrev pub ByPairs : Parts → ((ℕ → ℕ → Bool) → List ℕ → Type 0) → Type 0
+ByPairs p P = (apart : ℕ → ℕ → Bool) → Agrees apart (numbers p.1.0) p.1.1 → P apart (numbers p.1.0)
 
--- the regions are the grown ones, and the answer about the size is right, by each such test
+-- the regions are those at the number
+abbrev pub AreMadeFrom : Parts → List (List ℕ) → Type 0
+AreMadeFrom p regions = ByPairs p (λ apart classes. regions ≡ regions_at apart classes p.0)
+
+-- the regions are the grown ones, and the answer about the size is right
 pub record AreGrownFrom (p : Parts) (regions : List (List ℕ)) (answer : Strong) : Type 0 where
-  pub grown : (apart : ℕ → ℕ → Bool) → Agrees apart (numbers p.1.0) p.1.1 → regions ≡ grown_regions apart (numbers p.1.0) p.0
-  pub told : (apart : ℕ → ℕ → Bool) → Agrees apart (numbers p.1.0) p.1.1 → IsStrong apart (numbers p.1.0) p.0 (grown_regions apart (numbers p.1.0) p.0) answer
+  pub grown : ByPairs p (λ apart classes. regions ≡ grown_regions apart classes p.0)
+  pub told : ByPairs p (λ apart classes. IsStrong apart classes p.0 (grown_regions apart classes p.0) answer)
 
 -- the classes of a sort in a graph, and which are apart; where there are at most k, no pairs
 pub record IsSourceOf (g : Graph) (sort : SortId) (k : ℕ) (s : Source) : Type 0 where
