@@ -1,14 +1,14 @@
 -- Pairs and their keys: what is added stays, and nothing else becomes a key.
-use Rattle.std.proofs.Common.{◌≡◌, ℕ, zero, suc, ◌+◌, ◌<◌, ◌≤◌, ◌||◌, ◌⊎◌, Bool, true, false, cond, List, [], ◌∷◌, ◌++◌, length, take, Option, Some, None, inl, inr, refl, sym, subst, ap, ◌∙◌, arith, length-append, get_or, get_or-set_same, get_or-set_other}
-use Rattle.std.specs.Prelude.{◌==◌, ◌&&◌, slice_get, slice_set}
+use Rattle.std.proofs.Common.{◌≡◌, ℕ, zero, suc, ◌+◌, ◌-◌, ◌<◌, ◌≤◌, ◌||◌, ◌⊎◌, Bool, true, false, cond, List, [], ◌∷◌, ◌++◌, length, take, drop, Option, Some, None, inl, inr, refl, sym, subst, ap, ◌∙◌, arith, length-append, get_or, get_or-set_same, get_or-set_other}
+use Rattle.std.specs.Prelude.{◌==◌, ◌&&◌, nat_lt, slice_get, slice_set}
 use Rattle.std.specs.List.{Contains, list_any}
-use Rattle.std.proofs.lemmas.Bool.{eqb-true, false≢true, or_cases, or_left, or_right}
+use Rattle.std.proofs.lemmas.Bool.{cases_Bool, cases_lt, eqb-true, false_from_ne_true, false≢true, lt-ltb, ltb-true, or_cases, or_left, or_right}
 use Rattle.std.proofs.lemmas.Bool.Decides.{eqb_tells}
-use Rattle.std.proofs.lemmas.List.{take_more}
+use Rattle.std.proofs.lemmas.List.{get_or_past, take_more}
 use Rattle.std.proofs.lemmas.List.Elements.{All-from_get_or, All-get_or, All-push, All-weaker, Contains-append_left, Contains-push, Contains-push_cases}
 use Rattle.indexmap.specs.IndexSet.{insert_key}
 use Rattle.fm_base.specs.declared.ids.TermId.{TermId}
-use Rattle.fm_cells.specs.Apart.{AreEnteredAt, AreEnteredBehind, AreKeys, AreSides, AreSound, HasRoots, HasSides, IsEntered, IsKeyOr, IsLonger, KeepsCuts, KeepsPlaces, KeepsSound, StaysJoined, is_key, left_node, places_at, right_node}
+use Rattle.fm_cells.specs.Apart.{AreEnteredAt, AreEnteredBehind, AreKeys, AreSides, AreSound, HasPopped, HasRoots, HasSides, IsEntered, IsKeyOr, IsLonger, KeepsCuts, KeepsPlaces, KeepsSound, StaysJoined, is_key, left_node, places_at, popped_from, right_node}
 use Rattle.fm_cells.specs.Logs.{WereWritten}
 use Rattle.fm_cells.specs.Rings.{own_or}
 use Rattle.fm_cells.specs.contracts.apart.BetweenPartialEq.TheImpl.{eq-value}
@@ -265,11 +265,16 @@ set_there us node list place lt h = subst (λ xs. Contains xs place) (sym (get_o
 pub places_fewer : (n m : ℕ) (us vs : List (List ℕ)) → n ≤ m → KeepsPlaces m us vs → KeepsPlaces n us vs
 places_fewer n m us vs le h x i lt there = h x i (omega (arith, lt, le)) there
 
+pub taken_front : {X : Type 0} → (n : ℕ) (xs ys : List X) → n ≤ length xs → take n (xs ++ ys) ≡ take n xs
+taken_front zero xs ys le = refl
+taken_front (suc n) [] ys le = absurd (omega (arith, le))
+taken_front (suc n) (x ∷ xs) ys le = ap (λ zs. x ∷ zs) (taken_front n xs ys (omega (arith, le)))
+
 -- pairs, places and keys are added
 pub cuts_kept : (a b : Apart) (more : List (TermId × TermId)) → b.pairs.items ≡ a.pairs.items ++ more → ((x n : ℕ) → Contains (places_at a.sides.items x) n → Contains (places_at b.sides.items x) n) → IsLonger a.keys.keys b.keys.keys → KeepsCuts a b
 cuts_kept a b more pairs sides keys class c at =
-    let front : take c.pairs b.pairs.items ≡ take c.pairs a.pairs.items = ap (take c.pairs) pairs ∙ take_first c.pairs a.pairs.items more at.pairs in
-    let first : take c.keys b.keys.keys ≡ take c.keys a.keys.keys = ap (take c.keys) keys.is ∙ take_first c.keys a.keys.keys keys.more at.keys in
+    let front : take c.pairs b.pairs.items ≡ take c.pairs a.pairs.items = ap (take c.pairs) pairs ∙ taken_front c.pairs a.pairs.items more at.pairs in
+    let first : take c.keys b.keys.keys ≡ take c.keys a.keys.keys = ap (take c.keys) keys.is ∙ taken_front c.keys a.keys.keys keys.more at.keys in
     record {
       pairs = omega (arith, at.pairs, ap length pairs, length-append a.pairs.items more);
       keys = omega (arith, at.keys, ap length keys.is, length-append a.keys.keys keys.more);
@@ -277,8 +282,106 @@ cuts_kept a b more pairs sides keys class c at =
           subst (λ (ks : List Between). AreKeys class (take c.pairs b.pairs.items) b.sides.items ks c.joined) (sym first)
           (subst (λ (ps : List (TermId × TermId)). AreKeys class ps b.sides.items (take c.keys a.keys.keys) c.joined) (sym front) (keys_cut class c.pairs a.pairs.items a.sides.items b.sides.items (take c.keys a.keys.keys) c.joined (λ x i lt h. sides x i h) (at.right whole)));
     }
+
+-- one place more of those from `from` on
+pub range_more : (P : ℕ → Type 0) (from i : ℕ) → ((k : ℕ) → from ≤ k → k < i → P k) → P i → (k : ℕ) → from ≤ k → k < i + 1 → P k
+range_more P from i h here k le lt = elim (cases_lt k i) [ inl l ↦ h k le l | inr past ↦ let same : i ≡ k = omega (arith, past, lt) in subst P same here ]
+
+-- what is behind a place of a list stands in the list
+pub behind : {X : Type 0} → (xs : List X) (from : ℕ) (x : X) → Contains (drop from xs) x → (k : ℕ) × ((from ≤ k) × ((k < length xs) × (slice_get xs k ≡ Some x)))
+behind xs zero x h = (h.0, (omega arith, (h.1, get_is xs h.0 x h.1 h.2)))
   where
-    take_first : {X : Type 0} → (n : ℕ) (xs ys : List X) → n ≤ length xs → take n (xs ++ ys) ≡ take n xs
-    take_first zero xs ys le = refl
-    take_first (suc n) [] ys le = absurd (omega (arith, le))
-    take_first (suc n) (x ∷ xs) ys le = ap (λ zs. x ∷ zs) (take_first n xs ys (omega (arith, le)))
+    get_is : {X : Type 0} → (xs : List X) (k : ℕ) (x : X) → k < length xs → get_or xs k x ≡ x → slice_get xs k ≡ Some x
+    get_is [] k x lt e = absurd (omega (arith, lt))
+    get_is {X} (y ∷ xs) zero x lt e = ap (λ (z : X). Some z) e
+    get_is (y ∷ xs) (suc k) x lt e = get_is xs k x (omega (arith, lt)) e
+behind [] (suc from) x h = absurd (omega (arith, h.1))
+behind (y ∷ xs) (suc from) x h = let r = behind xs from x h in (suc r.0, (omega (arith, r.1.0), (omega (arith, r.1.1.0), r.1.1.1)))
+
+-- the last place goes, where it isn't below a bound
+
+contains_cases : (x : ℕ) (xs : List ℕ) (i : ℕ) → Contains (x ∷ xs) i → (i ≡ x) ⊎ Contains xs i
+contains_cases x xs i h = at h.0 h.1 h.2
+  where
+    at : (k : ℕ) → k < length (x ∷ xs) → get_or (x ∷ xs) k i ≡ i → (i ≡ x) ⊎ Contains xs i
+    at zero lt e = inl (sym e)
+    at (suc k) lt e = inr (k, omega (arith, lt), e)
+
+contains_first : (x : ℕ) (xs : List ℕ) (i : ℕ) → i ≡ x → Contains (x ∷ xs) i
+contains_first x xs i e = (0, omega arith, sym e)
+
+contains_rest : (x : ℕ) (xs : List ℕ) (i : ℕ) → Contains xs i → Contains (x ∷ xs) i
+contains_rest x xs i h = (suc h.0, omega (arith, h.1), h.2)
+
+under : (b : Bool) (x : ℕ) (ys zs : List ℕ) → x ∷ cond b ys zs ≡ cond b (x ∷ ys) (x ∷ zs)
+under true x ys zs = refl
+under false x ys zs = refl
+
+pub popped_end : (bound : ℕ) (xs : List ℕ) (v : ℕ) → popped_from bound (xs ++ v ∷ []) ≡ cond (nat_lt v bound) (xs ++ v ∷ []) xs
+popped_end bound [] v = refl
+popped_end bound (x ∷ []) v = ap (λ ys. x ∷ ys) (popped_end bound [] v) ∙ under (nat_lt v bound) x (v ∷ []) []
+popped_end bound (x ∷ y ∷ ys) v = ap (λ zs. x ∷ zs) (popped_end bound (y ∷ ys) v) ∙ under (nat_lt v bound) x (y ∷ ys ++ v ∷ []) (y ∷ ys)
+
+-- by the last place itself
+last_split : (xs : List ℕ) (n v : ℕ) → length xs ≡ suc n → v ≡ get_or xs n v → xs ≡ take n xs ++ v ∷ []
+last_split [] n v long e = absurd (omega (arith, long))
+last_split (x ∷ []) zero v long e = ap (λ y. y ∷ []) (sym e)
+last_split (x ∷ []) (suc n) v long e = absurd (omega (arith, long))
+last_split (x ∷ y ∷ ys) zero v long e = absurd (omega (arith, long))
+last_split (x ∷ y ∷ ys) (suc n) v long e = ap (λ zs. x ∷ zs) (last_split (y ∷ ys) n v (omega (arith, long)) e)
+
+pub popped_high : (bound : ℕ) (xs : List ℕ) (n v : ℕ) → length xs ≡ suc n → v ≡ get_or xs n v → bound ≤ v → take n xs ≡ popped_from bound xs
+popped_high bound xs n v long e high =
+    let front = take n xs in
+    let off = false_from_ne_true (nat_lt v bound) (λ t. let l = ltb-true v bound t in omega (arith, l, high)) in
+    sym (ap (popped_from bound) (last_split xs n v long e) ∙ (popped_end bound front v ∙ ap (λ b. cond b (front ++ v ∷ []) front) off))
+
+pub popped_low : (bound : ℕ) (xs : List ℕ) (n v : ℕ) → length xs ≡ suc n → v ≡ get_or xs n v → v < bound → xs ≡ popped_from bound xs
+popped_low bound xs n v long e low =
+    let front = take n xs in
+    let split = last_split xs n v long e in
+    sym (ap (popped_from bound) split ∙ (popped_end bound front v ∙ (ap (λ b. cond b (front ++ v ∷ []) front) (lt-ltb v bound low) ∙ sym split)))
+
+pub popped_empty : (bound : ℕ) (xs : List ℕ) → length xs ≤ 0 → xs ≡ popped_from bound xs
+popped_empty bound [] le = refl
+popped_empty bound (x ∷ xs) le = absurd (omega (arith, le))
+
+pub popped_keeps : (bound : ℕ) (xs : List ℕ) (i : ℕ) → i < bound → Contains xs i → Contains (popped_from bound xs) i
+popped_keeps bound [] i lt h = h
+popped_keeps bound (x ∷ []) i lt h =
+    elim (cases_Bool (nat_lt x bound)) [
+      | inl low ↦ subst (λ ys. Contains ys i) (sym (ap (λ b. cond b (x ∷ []) []) low)) h
+      | inr high ↦ elim (contains_cases x [] i h) [
+        | inl same ↦ absurd (false≢true (sym high ∙ lt-ltb x bound (omega (arith, lt, same))))
+        | inr rest ↦ absurd (omega (arith, rest.1))
+      ]
+    ]
+popped_keeps bound (x ∷ y ∷ ys) i lt h =
+    elim (contains_cases x (y ∷ ys) i h) [
+      | inl same ↦ contains_first x (popped_from bound (y ∷ ys)) i same
+      | inr rest ↦ contains_rest x (popped_from bound (y ∷ ys)) i (popped_keeps bound (y ∷ ys) i lt rest)
+    ]
+
+pub pops_keep : (bound node : ℕ) (us vs : List (List ℕ)) → HasPopped bound node us vs → KeepsPlaces bound us vs
+pops_keep bound node us vs h x i lt there =
+    subst (λ ps. Contains ps i) (sym (h x)) (elim (cases_Bool (x == node)) [
+      | inl here ↦ subst (λ ps. Contains ps i) (sym (ap (λ b. cond b (popped_from bound (places_at us x)) (places_at us x)) here)) (popped_keeps bound (places_at us x) i lt there)
+      | inr other ↦ subst (λ ps. Contains ps i) (sym (ap (λ b. cond b (popped_from bound (places_at us x)) (places_at us x)) other)) there
+    ])
+
+pub popped_set : (bound : ℕ) (us : List (List ℕ)) (node : ℕ) (list : List ℕ) → node < length us → list ≡ popped_from bound (places_at us node) → HasPopped bound node us (slice_set us node list)
+popped_set bound us node list lt is x =
+    elim (eqb_tells x node) [
+      | inl same ↦ ap (λ (y : ℕ). places_at (slice_set us node list) y) same.1 ∙ (get_or-set_same us node list [] lt ∙ (is ∙ (ap (λ (y : ℕ). popped_from bound (places_at us y)) (sym same.1) ∙ sym (ap (λ b. cond b (popped_from bound (places_at us x)) (places_at us x)) same.0))))
+      | inr other ↦ get_or-set_other us node x list [] other.1 ∙ sym (ap (λ b. cond b (popped_from bound (places_at us x)) (places_at us x)) other.0)
+    ]
+
+-- a node past the end has no places
+pub popped_none : (bound : ℕ) (us : List (List ℕ)) (node : ℕ) → length us ≤ node → HasPopped bound node us us
+popped_none bound us node le x =
+    elim (eqb_tells x node) [
+      | inl same ↦
+          let none : places_at us x ≡ [] = get_or_past us x [] (omega (arith, le, same.1)) in
+          none ∙ sym (ap (λ b. cond b (popped_from bound (places_at us x)) (places_at us x)) same.0 ∙ ap (popped_from bound) none)
+      | inr other ↦ sym (ap (λ b. cond b (popped_from bound (places_at us x)) (places_at us x)) other.0)
+    ]

@@ -1,9 +1,7 @@
-pub mod Exchanging
-pub mod Following
+pub mod Firsts
 pub mod Hanging
 pub mod Heights
 pub mod Keying
-pub mod Listing
 pub mod Logging
 pub mod Members
 pub mod Pending
@@ -14,3 +12,4 @@ pub mod Splicing
 pub mod Trimming
 pub mod Turning
 pub mod Ways
+pub mod Writing

@@ -1,4 +1,4 @@
--- A term's place among terms in ascending order, and what putting it there and taking it out say.
+-- A term's place among terms in ascending order, and what putting it there says.
 use Rattle.std.proofs.Common.{◌≡◌, ℕ, zero, suc, ◌+◌, ◌-◌, ◌<◌, ◌≤◌, ◌||◌, true, false, List, [], ◌∷◌, ◌++◌, length, take, drop, inl, inr, refl, sym, ap, ◌∙◌, arith, get_or}
 use Rattle.std.specs.Prelude.{◌==◌}
 use Rattle.std.specs.List.{insert, remove}
@@ -6,9 +6,9 @@ use Rattle.std.proofs.lemmas.Bool.{cases_lt, eq-eqb, eqb-true, false≢true, fal
 use Rattle.std.proofs.lemmas.Bool.Decides.{eqb_tells}
 use Rattle.std.proofs.lemmas.List.Edits.{get_or-insert_above, get_or-insert_at, get_or-insert_below, get_or-remove_above, get_or-remove_below, length-insert, length-remove}
 use Rattle.fm_base.specs.declared.ids.TermId.{TermId}
-use Rattle.fm_cells.specs.Fronts.{IsAscending, IsPlace, KeepsOthers, is_in}
+use Rattle.fm_cells.specs.Ascending.{IsAscending, IsPlace, KeepsOthers, is_in}
 
-same_at : (xs : List TermId) (k : ℕ) (d e : TermId) → k < length xs → get_or xs k d ≡ get_or xs k e
+pub same_at : (xs : List TermId) (k : ℕ) (d e : TermId) → k < length xs → get_or xs k d ≡ get_or xs k e
 same_at [] k d e lt = absurd (omega (arith, lt))
 same_at (x ∷ xs) zero d e lt = refl
 same_at (x ∷ xs) (suc k) d e lt = same_at xs k d e (omega (arith, lt))
@@ -76,7 +76,7 @@ module _ (xs : List TermId) (up : IsAscending xs) (n : ℕ) where
         ]
 
     -- what stands at its place is the term
-    at_place : is_in xs n ≡ true → (d : TermId) → (get_or xs p d).0 ≡ n
+    pub at_place : is_in xs n ≡ true → (d : TermId) → (get_or xs p d).0 ≡ n
     at_place t d =
         let r = found_where xs n t in
         let e = r.1.1 d in
@@ -97,12 +97,6 @@ in_put_other : (xs : List TermId) (p : ℕ) (t : TermId) (n : ℕ) → (n ≡ t.
 in_put_other xs zero t n ne = ap (λ b. b || is_in xs n) (ne_eqb n t.0 ne)
 in_put_other [] (suc p) t n ne = ap (λ b. b || false) (ne_eqb n t.0 ne)
 in_put_other (x ∷ xs) (suc p) t n ne = ap (λ b. (n == x.0) || b) (in_put_other xs p t n ne)
-
-in_taken_other : (xs : List TermId) (p n : ℕ) → ((d : TermId) → p < length xs → n ≡ (get_or xs p d).0 → ⊥) → is_in (take p xs ++ drop (suc p) xs) n ≡ is_in xs n
-in_taken_other [] zero n ne = refl
-in_taken_other [] (suc p) n ne = refl
-in_taken_other (x ∷ xs) zero n ne = sym (ap (λ b. b || is_in xs n) (ne_eqb n x.0 (ne x (omega arith))))
-in_taken_other (x ∷ xs) (suc p) n ne = ap (λ b. (n == x.0) || b) (in_taken_other xs p n (λ d lt. ne d (omega (arith, lt))))
 
 module _ (xs : List TermId) (up : IsAscending xs) (t : TermId) (p : ℕ) (h : IsPlace xs t.0 p) where
   pub put_there : (ys : List TermId) → ys ≡ insert xs p t → is_in ys t.0 ≡ true
@@ -140,38 +134,3 @@ module _ (xs : List TermId) (up : IsAscending xs) (t : TermId) (p : ℕ) (h : Is
 
       below : {a b m n : ℕ} → a ≡ m → b ≡ n → m < n → a < b
       below e f l = omega (arith, e, f, l)
-
-module _ (xs : List TermId) (up : IsAscending xs) (n p : ℕ) (h : IsPlace xs n p) (present : is_in xs n ≡ true) where
-  within : p < length xs
-  within = place_below xs up n p h present
-
-  pub taken_gone : (ys : List TermId) → ys ≡ remove xs p → is_in ys n ≡ false
-  taken_gone ys e =
-      ap (λ zs. is_in zs n) e ∙ not_found (remove xs p) n (λ k d lk is.
-      let long = length-remove xs p within in
-      elim (cases_lt k p) [
-        | inl l ↦ let a = ap (λ (u : TermId). u.0) (get_or-remove_below xs p d k l within) in let b = h.below k d l in omega (arith, a, b, is)
-        | inr past ↦
-            let a = ap (λ (u : TermId). u.0) (get_or-remove_above xs p d k past within) in
-            let o = up p (k + 1) d (omega (arith, past)) (omega (arith, lk, long)) in
-            let b = h.above p d (omega arith) within in
-            omega (arith, a, o, b, is)
-      ])
-
-  pub taken_others : (ys : List TermId) → ys ≡ remove xs p → KeepsOthers n xs ys
-  taken_others ys e m ne = ap (λ zs. is_in zs m) e ∙ in_taken_other xs p m (λ d lt is. ne (is ∙ at_place xs up n p h present d))
-
-  pub taken_ascending : IsAscending (remove xs p)
-  taken_ascending i j d lt lj =
-      let long = length-remove xs p within in
-      let low : (k : ℕ) → k < p → (get_or (remove xs p) k d).0 ≡ (get_or xs k d).0 = λ k l. ap (λ (u : TermId). u.0) (get_or-remove_below xs p d k l within) in
-      let high : (k : ℕ) → p ≤ k → (get_or (remove xs p) k d).0 ≡ (get_or xs (k + 1) d).0 = λ k l. ap (λ (u : TermId). u.0) (get_or-remove_above xs p d k l within) in
-      elim (cases_lt j p) [
-        | inl lp ↦ let a = low i (omega (arith, lt, lp)) in let b = low j lp in let o = up i j d lt (omega (arith, lj, long)) in omega (arith, a, b, o)
-        | inr pj ↦
-            let b = high j pj in
-            elim (cases_lt i p) [
-              | inl ip ↦ let a = low i ip in let o = up i (j + 1) d (omega (arith, lt)) (omega (arith, lj, long)) in omega (arith, a, b, o)
-              | inr pi ↦ let a = high i pi in let o = up (i + 1) (j + 1) d (omega (arith, lt)) (omega (arith, lj, long)) in omega (arith, a, b, o)
-            ]
-      ]

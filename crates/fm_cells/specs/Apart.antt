@@ -1,5 +1,5 @@
 -- Pairs of terms that are unequal, and the classes between which they stand. The node n + 2 is the term n.
-use Rattle.std.specs.Prelude.{◌≡◌, ◌<◌, ◌≤◌, ◌+◌, ℕ, ◌==◌, ◌&&◌, ◌⊎◌, Bool, true, List, [], ◌++◌, length, slice_get, take, Some}
+use Rattle.std.specs.Prelude.{◌≡◌, ◌<◌, ◌≤◌, ◌+◌, ℕ, ◌==◌, ◌&&◌, ◌⊎◌, Bool, true, if◌then◌else◌, List, [], ◌∷◌, ◌++◌, length, nat_lt, slice_get, take, Some}
 use Rattle.std.specs.List.{All, Contains, list_any, slice_index_or}
 use Rattle.fm_base.specs.declared.ids.TermId.{TermId}
 use Rattle.fm_cells.specs.Logs.{WereWritten}
@@ -45,6 +45,16 @@ IsKeyOr class keys p c d = (is_key keys c d ≡ true) ⊎ ((c ≡ class (left_no
 -- the places of the pairs that have a node as a side
 abbrev pub places_at : List (List ℕ) → ℕ → List ℕ
 places_at sides x = slice_index_or sides x []
+
+-- the places without the last, where that isn't below a bound
+abbrev pub popped_from : ℕ → List ℕ → List ℕ
+popped_from bound [] = []
+popped_from bound (p ∷ []) = if nat_lt p bound then p ∷ [] else []
+popped_from bound (p ∷ q ∷ ps) = p ∷ popped_from bound (q ∷ ps)
+
+-- so it is at one node, and the others have theirs
+abbrev pub HasPopped : ℕ → ℕ → List (List ℕ) → List (List ℕ) → Type 0
+HasPopped bound node old new = (x : ℕ) → places_at new x ≡ (if x == node then popped_from bound (places_at old x) else places_at old x)
 
 abbrev pub HasSides : List (List ℕ) → ℕ → TermId × TermId → Type 0
 HasSides sides i p = Contains (places_at sides (left_node p)) i × Contains (places_at sides (right_node p)) i

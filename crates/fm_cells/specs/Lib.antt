@@ -1,8 +1,8 @@
 pub mod Apart
+pub mod Ascending
 pub mod Forest
-pub mod Fronts
 pub mod Logs
 pub mod Members
-pub mod Oldest
 pub mod Rings
+pub mod Sorts
 pub mod Unions

@@ -1,5 +1,5 @@
 -- A log of writes to the cells of a list: the cell, and what stood there. The newest write is the last.
-use Rattle.std.specs.Prelude.{◌≡◌, ◌<◌, ℕ, ◌⊎◌, List, [], ◌∷◌, ◌++◌, length, slice_get, slice_set, Some}
+use Rattle.std.specs.Prelude.{◌≡◌, ◌<◌, ℕ, ◌⊎◌, List, [], ◌∷◌, ◌++◌, length, slice_set}
 use Rattle.std.specs.List.{All, Contains, slice_index_or}
 
 -- the cells once the writes of a log are taken back
@@ -20,13 +20,3 @@ pub record HasLogged {X : Type 0} (old_log : List (ℕ × X)) (old : List X) (ne
 -- where a cell has changed, the log has it, with what stood there before
 abbrev pub WereWritten : {X : Type 0} → List (ℕ × X) → List X → List X → Type 0
 WereWritten {X} log before after = (x : ℕ) (d : X) → (slice_index_or before x d ≡ slice_index_or after x d) ⊎ Contains log (x, slice_index_or before x d)
-
--- an entry of the log and its cell have exchanged their contents
-pub record AreExchanged {X : Type 0} (i : ℕ) (cells : List X) (log : List (ℕ × X)) (new : List X) (new_log : List (ℕ × X)) : Type 0 where
-  pub cell : ℕ
-  pub old : X
-  pub now : X
-  pub entry : slice_get log i ≡ Some (cell, old)
-  pub content : slice_get cells cell ≡ Some now
-  pub cells_are : new ≡ slice_set cells cell old
-  pub log_is : new_log ≡ slice_set log i (cell, now)

@@ -1,7 +1,7 @@
-ghost use Rattle.std.specs.Prelude.{◌≡◌, ◌<◌, ◌≤◌, ◌++◌, ◌∷◌, ◌||◌, ℕ, [], drop, false, length, slice_get, take, true, vec_capacity, vec_len};
+ghost use Rattle.std.specs.Prelude.{◌≡◌, ◌<◌, ◌≤◌, ◌++◌, ◌∷◌, ℕ, [], drop, false, length, slice_get, take, true, vec_capacity, vec_len};
 ghost use Rattle.std.specs.Prelude.{IfOk, OnOk};
 ghost use Rattle.std.specs.List.{Contains};
-ghost use Rattle.fm_cells.specs.Apart.{AreEnteredAt, AreEnteredBehind, ArePairsWithin, FollowsJoins, HasSides, IsEntered, IsIndexed, IsIndexedAt, IsKeyOr, IsLonger};
+ghost use Rattle.fm_cells.specs.Apart.{AreEnteredAt, AreEnteredBehind, ArePairsWithin, FollowsJoins, HasPopped, HasSides, IsEntered, IsIndexed, IsIndexedAt, IsKeyOr, IsLonger};
 ghost use Rattle.fm_cells.specs.Apart.{IsPairWithin, KeepsCuts, KeepsIndex, KeepsIndexOf, KeepsPlaces, KeepsSound, is_key, places_at};
 ghost use Rattle.fm_cells.specs.Rings.{own_or};
 
@@ -167,7 +167,7 @@ fn note_side(
 
 // Takes the places of a pair back at a node.
 fn drop_side(sides: &mut Vec<Places>, node: usize, bound: usize)
-    ensures { KeepsPlaces bound sides.old.items sides.new.items }
+    ensures { HasPopped bound node sides.old.items sides.new.items }
 {
     if node < sides.len() {
         let list = &mut sides[node];
@@ -270,13 +270,11 @@ impl Apart {
         }
     }
 
-    /// Whether a pair stands between two classes, by their numbers.
-    pub fn stands_between(&self, c: usize, d: usize) -> bool
-        ensures { result ≡ (is_key self.now.keys.keys c d || is_key self.now.keys.keys d c) }
+    /// Whether the first side of a pair is of one class and the second of another, by their numbers.
+    pub fn stands_from(&self, c: usize, d: usize) -> bool
+        ensures { result ≡ is_key self.now.keys.keys c d }
     {
-        let here = Between { left: c, right: d };
-        let there = Between { left: d, right: c };
-        self.keys.contains(&here) || self.keys.contains(&there)
+        self.keys.contains(&Between { left: c, right: d })
     }
 
     /// How much there is.

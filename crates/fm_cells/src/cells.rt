@@ -1,7 +1,7 @@
 ghost use Rattle.std.specs.Prelude.{◌≡◌, ◌<◌, ◌≤◌, ◌+◌, ◌++◌, ◌∷◌, [], length, take, drop, slice_get, slice_set, vec_capacity, vec_len};
 ghost use Rattle.std.specs.Prelude.{Some, OnOk, OnErr};
 ghost use Rattle.std.proofs.Props.{props};
-ghost use Rattle.fm_cells.specs.Logs.{AreExchanged, AreOfCells, HasLogged, WereWritten, restored};
+ghost use Rattle.fm_cells.specs.Logs.{AreOfCells, HasLogged, restored};
 
 use fm_base::Memory;
 use std::alloc::Global;
@@ -116,40 +116,5 @@ impl<T: Copy> Logged<T> {
                 None => return,
             }
         }
-    }
-
-    // Takes the write of an entry back, and leaves in the entry what the write had put there.
-    fn exchange(&mut self, i: usize)
-        requires { i < length self.old.log.items }
-        ensures { AreExchanged i self.old.cells.items self.old.log.items self.new.cells.items self.new.log.items }
-    {
-        let (cell, old) = self.log[i];
-        let new = self.get(cell);
-        self.cells[cell] = old;
-        self.log[i] = (cell, new);
-    }
-
-    /// Takes the writes back as `rewind` does, but leaves their entries, each with what its write had put there: so a caller
-    /// can see what has changed, before it calls `cut`. It takes no memory.
-    pub fn take_back(&mut self, to: usize)
-        requires { to ≤ length self.old.log.items }
-        ensures cells { self.new.cells.items ≡ restored (drop to self.old.log.items) self.old.cells.items }
-        ensures length { length self.new.log.items ≡ length self.old.log.items }
-        ensures front { take to self.new.log.items ≡ take to self.old.log.items }
-        ensures written { WereWritten (drop to self.new.log.items) self.old.cells.items self.new.cells.items }
-    {
-        let mut at = self.log.len();
-        while at > to {
-            at -= 1;
-            self.exchange(at);
-        }
-    }
-
-    /// Forgets the entries behind a length of the log.
-    pub fn cut(&mut self, to: usize)
-        ensures log { self.new.log.items ≡ take to self.old.log.items }
-        ensures cells { self.new.cells.items ≡ self.old.cells.items }
-    {
-        self.log.truncate(to);
     }
 }

@@ -1,22 +1,22 @@
-//! Cells with undo: classes as rings of members, the first terms of classes, and a forest of links.
+//! Cells with undo: classes as rings of members, and a forest of links; and terms by their sorts.
 #![tactic(auto)]
 
 mod apart;
+mod ascending;
 mod cells;
 mod edge;
 mod forest;
-mod front;
-mod oldest;
 mod places;
 mod rings;
+mod sorts;
 #[cfg(test)]
 mod tests;
 
 pub use apart::{Apart, Between, Cut};
+pub use ascending::{Ascending, find};
 pub use cells::Logged;
 pub use edge::{Cause, Edge};
 pub use forest::{depth, hang, link_of};
-pub use front::Front;
-pub use oldest::Oldest;
 pub use places::Places;
 pub use rings::{Classes, Root};
+pub use sorts::{Sorts, first_terms};

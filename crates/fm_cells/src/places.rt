@@ -1,5 +1,5 @@
-ghost use Rattle.std.specs.Prelude.{◌≡◌, ◌<◌, ◌++◌, ◌∷◌, [], ℕ, OnOk, OnErr};
-ghost use Rattle.std.specs.List.{Contains};
+ghost use Rattle.std.specs.Prelude.{◌≡◌, ◌++◌, ◌∷◌, [], OnOk, OnErr};
+ghost use Rattle.fm_cells.specs.Apart.{popped_from};
 
 use fm_base::Memory;
 use std::alloc::Global;
@@ -47,12 +47,11 @@ impl Places {
 
     /// Takes the last place out where it isn't below a bound.
     pub fn pop_from(&mut self, bound: usize)
-        ensures kept { (i : ℕ) → i < bound → Contains self.old i → Contains self.new i }
+        ensures { self.new ≡ popped_from bound self.old }
     {
-        if let Some(last) = self.places.last().copied() {
-            if last >= bound {
-                self.places.pop();
-            }
+        let count = self.places.len();
+        if count > 0 && self.places[count - 1] >= bound {
+            self.places.truncate(count - 1);
         }
     }
 }

@@ -147,13 +147,22 @@ impl Classes {
         Ok(())
     }
 
+    /// The least rank in the class of a node.
+    pub fn least(&self, node: usize) -> usize
+        requires node { node < length self.now.class.cells.items }
+        requires root { own_or self.now.class.cells.items node < length self.now.size.cells.items }
+        ensures { result ≡ (root_or self.now.size.cells.items (own_or self.now.class.cells.items node)).least }
+    {
+        let root = self.size.get(self.class.get(node));
+        root.least
+    }
+
     /// Whether a node is the first of its class by its number; the nodes 0 and 1 come behind all others.
     pub fn is_least(&self, node: usize) -> bool
         requires node { node < length self.now.class.cells.items }
         requires root { own_or self.now.class.cells.items node < length self.now.size.cells.items }
         ensures { result ≡ is_least (own_or self.now.class.cells.items) (root_or self.now.size.cells.items) node }
     {
-        let root = self.size.get(self.class.get(node));
-        root.least == rank(node)
+        self.least(node) == rank(node)
     }
 }

@@ -1,5 +1,5 @@
-use crate::{Classes, Logged};
-use fm_base::Memory;
+use crate::{Logged, Sorts, find};
+use fm_base::{Memory, SortId, TermId};
 use std::alloc::Global;
 use std::test::Fail;
 
@@ -48,5 +48,36 @@ fn takes_writes_back(rt: HostRuntime) -> Result<(), Fail> {
             "down to {to}"
         );
     }
+    Ok(())
+}
+
+// Terms of a sort that are noted in this order.
+fn noted(alloc: Global, numbers: &[usize]) -> Result<Sorts, Memory> {
+    let mut sorts = Sorts::new(alloc);
+    for number in numbers {
+        sorts.announce(alloc, SortId(1))?;
+        sorts.note(TermId(*number), SortId(1));
+    }
+    Ok(sorts)
+}
+
+// Whether the terms of a sort stand at these places, and no others do.
+fn stand_at(sorts: &Sorts, sort: SortId, places: &[Option<usize>]) -> bool {
+    let terms = sorts.terms(sort);
+    for (number, place) in places.iter().enumerate() {
+        if find(terms, number) != *place {
+            return false;
+        }
+    }
+    true
+}
+
+#[test]
+fn lists_terms_in_order(rt: HostRuntime) -> Result<(), Fail> {
+    let sorts = noted(rt.alloc(), &[4, 1, 3, 1])?;
+    let places = [None, Some(0), None, Some(1), Some(2), None];
+    assert!(rt; stand_at(&sorts, SortId(1), places.as_slice()));
+    assert!(rt; stand_at(&sorts, SortId(0), [None; 6].as_slice()));
+    assert!(rt; stand_at(&sorts, SortId(2), [None; 6].as_slice()));
     Ok(())
 }

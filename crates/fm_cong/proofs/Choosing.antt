@@ -1,18 +1,17 @@
--- In a settled state the terms listed are the oldest of their classes.
-use Rattle.std.proofs.Common.{◌≡◌, ◌↔◌, ℕ, zero, suc, ◌+◌, ◌-◌, ◌<◌, ◌≤◌, ◌||◌, ◌&&◌, ◌⊎◌, Bool, true, false, List, [], ◌∷◌, length, Option, Some, None, inl, inr, refl, sym, subst, ap, ◌∙◌, arith, get_or}
+-- In a settled state the first terms of the classes by their cells are the oldest.
+use Rattle.std.proofs.Common.{◌≡◌, ◌↔◌, ℕ, zero, suc, ◌+◌, ◌-◌, ◌<◌, ◌≤◌, ◌||◌, ◌&&◌, ◌⊎◌, Bool, true, false, cond, List, [], ◌∷◌, length, inl, inr, refl, sym, subst, ap, ◌∙◌, arith, get_or}
 use Rattle.std.specs.Prelude.{◌==◌, nat_lt}
-use Rattle.std.specs.List.{All, Contains, cons_option}
-use Rattle.std.proofs.lemmas.Bool.{cases_lt, eq-eqb, eqb-true, false≢true, lt-ltb, or_cases, or_left, or_right}
+use Rattle.std.specs.List.{All, Contains, cons_option, filter}
+use Rattle.std.proofs.lemmas.Bool.{and_from, and_parts, cases_lt, eq-eqb, eqb-true, false_from_ne_true, false≢true, lt-ltb, ltb-true, or_cases, or_left, or_right}
 use Rattle.std.proofs.lemmas.List.Elements.{All-cons, All-head, All-nil, All-tail}
 use Rattle.fm_base.specs.declared.ids.SortId.{SortId}
 use Rattle.fm_base.specs.declared.ids.TermId.{TermId}
 use Rattle.fm_base.specs.declared.signature.Ty.{Ty}
 use Rattle.fm_bank.specs.Closure.{Follows, IsClosed, Shape, no, object, yes}
 use Rattle.fm_bank.specs.declared.atom.Atom.{Atom}
-use Rattle.fm_cells.specs.Oldest.{is_kind, kind_of, list_of}
-use Rattle.fm_cells.specs.Rings.{IsLeast, is_least, rank}
-use Rattle.fm_cells.proofs.Following.{rank_high, rank_low}
-use Rattle.fm_cells.proofs.Listing.{kind_here}
+use Rattle.fm_cells.specs.Rings.{IsLeast, is_least, own_or, rank}
+use Rattle.fm_cells.specs.Sorts.{AreNodes, is_first, list_of}
+use Rattle.fm_cells.proofs.Firsts.{filter_from, filter_in}
 use Rattle.fm_cells.proofs.Placing.{found_at, found_where}
 use Rattle.fm_cong.specs.Facts.{pairs_of, sides}
 use Rattle.fm_cong.specs.Faithful.{IsWhole, held_in}
@@ -20,20 +19,18 @@ use Rattle.fm_cong.specs.Graphs.{cells_of}
 use Rattle.fm_cong.specs.Held.{AreEqual, IsRegistered, JoinsRegistered, is_registered}
 use Rattle.fm_cong.specs.Levels.{IsComplete}
 use Rattle.fm_cong.specs.States.{class_in, root_in}
-use Rattle.fm_cong.specs.Types.{IsOldest}
+use Rattle.fm_cong.specs.Types.{IsOldest, IsOldestOf}
 use Rattle.fm_cong.specs.declared.egraph.Egraph.TheInside.{Inside}
 use Rattle.fm_cong.specs.declared.fact.Fact.{Fact}
 use Rattle.fm_cong.proofs.Holding.{registered_node}
 use Rattle.fm_cong.proofs.Reading.{follows_one_class, one_class_follows}
 use Rattle.fm_cong.proofs.Whole.{AreRead}
 
-and_parts : (a b : Bool) → (a && b) ≡ true → (a ≡ true) × (b ≡ true)
-and_parts true b h = (refl, h)
-and_parts false b h = absurd (false≢true h)
+rank_high : (x : ℕ) → 2 ≤ x → rank x ≡ x
+rank_high x le = ap (λ b. cond b 18446744073709551615 x) (false_from_ne_true (nat_lt x 2) (λ t. let l = ltb-true x 2 t in omega (arith, l, le)))
 
-and_made : (a b : Bool) → a ≡ true → b ≡ true → (a && b) ≡ true
-and_made true b p q = q
-and_made false b p q = absurd (false≢true p)
+rank_low : (x : ℕ) → nat_lt x 2 ≡ true → rank x ≡ 18446744073709551615
+rank_low x t = ap (λ b. cond b 18446744073709551615 x) t
 
 -- yes, no and the nodes of registered terms
 abbrev is_object : List Shape → ℕ → Bool
@@ -54,7 +51,7 @@ registered_at (s ∷ shapes) (suc k) d lt = or_right ((get_or shapes k d).number
 
 module _ (shapes : List Shape) where
   both_alike : (x y : ℕ) → is_object shapes x ≡ true → is_object shapes y ≡ true → alike shapes x y ≡ true
-  both_alike x y p q = or_right (x == y) (is_object shapes x && is_object shapes y) (and_made (is_object shapes x) (is_object shapes y) p q)
+  both_alike x y p q = or_right (x == y) (is_object shapes x && is_object shapes y) (and_from (is_object shapes x) (is_object shapes y) p q)
 
   abbrev Alike : ℕ × ℕ → Type 0
   Alike p = alike shapes p.0 p.1 ≡ true
@@ -107,10 +104,6 @@ module _ (shapes : List Shape) where
         | inr b ↦ inr (and_parts (is_object shapes x) (is_object shapes y) b).1
       ]
 
-kind_from : (k : Option SortId) (sort : SortId) → is_kind k sort.0 ≡ true → k ≡ Some sort
-kind_from None sort h = absurd (false≢true h)
-kind_from (Some s) sort h = let e = eqb-true s.0 sort.0 h in λ i. Some (record { 0 = e i })
-
 term_same : (a b : TermId) → a.0 ≡ b.0 → a ≡ b
 term_same a b e = λ i. record { 0 = e i }
 
@@ -154,17 +147,75 @@ module _ (g : Inside) (w : IsWhole g) (complete : IsComplete g.members.items (ce
         ] in
         eq-eqb (root_in g.state (class_in g.state (n + 2))).least (rank (n + 2)) (omega (arith, upper, lower, l.is, rank_high (n + 2) (omega arith)))
 
-  pub listed : (sort : SortId) (t : TermId) → Contains (list_of g.oldest sort.0) t ↔ IsOldest (held_in g) sort t
-  listed sort t = (
-    (λ h.
-        let on = found_at (list_of g.oldest sort.0) t.0 h.0 t h.1 (ap (λ (u : TermId). u.0) h.2) in
-        let both = and_parts (is_kind (kind_of g.oldest t.0) sort.0) (is_least (class_in g.state) (root_in g.state) (t.0 + 2)) (sym (w.right t.0 sort.0) ∙ on) in
-        let typed = (w.sorts.kinds t sort).0 (kind_from (kind_of g.oldest t.0) sort both.0) in
-        record { registered = w.sorts.typed t (Ty.Of sort) typed; typed = typed; first = λ m _ e. least_to t.0 m both.1 e }),
-    (λ h.
-        let kind = kind_here g.oldest t.0 sort ((w.sorts.kinds t sort).1 h.typed) in
-        let least = least_from t.0 h.registered h.first in
-        let on = w.right t.0 sort.0 ∙ and_made (is_kind (kind_of g.oldest t.0) sort.0) (is_least (class_in g.state) (root_in g.state) (t.0 + 2)) kind least in
-        let r = found_where (list_of g.oldest sort.0) t.0 on in
-        (r.0, r.1.0, term_same (get_or (list_of g.oldest sort.0) r.0 t) t (r.1.1 t))),
-  )
+  pub listed : (sort : SortId) (t : TermId) → Contains (filter (is_first g.state.classes) (list_of g.sorts sort.0)) t ↔ IsOldest (held_in g) sort t
+  listed sort t =
+      let all = list_of g.sorts sort.0 in
+      let firsts = filter (is_first g.state.classes) all in (
+        (λ h.
+            let both = filter_from (is_first g.state.classes) all t (found_at firsts t.0 h.0 t h.1 (ap (λ (u : TermId). u.0) h.2)) in
+            let typed = (w.sorts.lists t sort).0 both.0 in
+            record { registered = w.sorts.typed t (Ty.Of sort) typed; typed = typed; first = λ m _ e. least_to t.0 m both.1 e }),
+        (λ h.
+            let on = filter_in (is_first g.state.classes) all t ((w.sorts.lists t sort).1 h.typed) (least_from t.0 h.registered h.first) in
+            let r = found_where firsts t.0 on in
+            (r.0, r.1.0, term_same (get_or firsts r.0 t) t (r.1.1 t))),
+      )
+
+  pub root_within : (x : ℕ) → x < length g.state.classes.class.cells.items → own_or g.state.classes.class.cells.items x < length g.state.classes.size.cells.items
+  root_within x lt = let l = w.sound.steady.working.below x lt in omega (arith, l, w.sound.steady.working.sizes)
+
+  -- the terms of a sort have their nodes
+  pub nodes_of : (sort : SortId) → AreNodes g.state.classes (list_of g.sorts sort.0)
+  nodes_of sort = record {
+    below = root_within;
+    known = λ i d lt.
+        let t = get_or (list_of g.sorts sort.0) i d in
+        let typed = (w.sorts.lists t sort).0 (found_at (list_of g.sorts sort.0) t.0 i d lt refl) in
+        registered_node g.members.items (length g.state.classes.class.cells.items) t.0 w.sound.steady.working.known (w.sorts.typed t (Ty.Of sort) typed);
+  }
+
+  -- the least rank in the class of a registered term is that of the oldest
+  module _ (n : ℕ) (here : IsRegistered g.members.items n) where
+    abbrev least : ℕ
+    least = (root_in g.state (class_in g.state (n + 2))).least
+
+    l : IsLeast (class_in g.state) (class_in g.state (n + 2)) least
+    l = least_at (n + 2)
+
+    member_high : 2 ≤ l.member
+    member_high = elim (cases_lt l.member 2) [
+      | inl low ↦
+          let b = registered_node g.members.items (length g.state.classes.class.cells.items) n w.sound.steady.working.known here in
+          let upper = l.first (n + 2) refl in
+          let r = rank_low l.member (lt-ltb l.member 2 low) in
+          absurd (omega (arith, b, upper, l.is, r, rank_high (n + 2) (omega arith), g.state.classes.class.cells.ok.0, g.state.classes.class.cells.small))
+      | inr high ↦ high
+    ]
+
+    equal_member : AreEqual (held_in g) (object n) l.member
+    equal_member = one_class_follows g.members.items (cells_of g.state) complete (n + 2) l.member (sym l.here)
+
+    member_registered : is_registered g.members.items (l.member - 2) ≡ true
+    member_registered = elim (only_objects g.members.items g.state.facts.items w.read (n + 2) l.member equal_member) [
+      | inl e ↦ let same : n ≡ l.member - 2 = omega (arith, e) in subst (λ (m : ℕ). is_registered g.members.items m ≡ true) same here
+      | inr o ↦ elim (or_cases (nat_lt l.member 2) (is_registered g.members.items (l.member - 2)) o) [
+        | inl low ↦ let b = ltb-true l.member 2 low in absurd (omega (arith, b, member_high))
+        | inr r ↦ r
+      ]
+    ]
+
+    least_is : least ≡ l.member
+    least_is = sym l.is ∙ rank_high l.member member_high
+
+    pub oldest_is : (t o : TermId) → t.0 ≡ n → o.0 ≡ least - 2 → IsOldestOf (held_in g) t o
+    oldest_is t o t_is o_is =
+        let e : o.0 ≡ l.member - 2 = o_is ∙ ap (λ (m : ℕ). m - 2) least_is in
+        let node : l.member ≡ o.0 + 2 = omega (arith, e, member_high) in
+        record {
+          registered = subst (λ (m : ℕ). IsRegistered g.members.items m) (sym e) member_registered;
+          equal = subst (λ (m : ℕ). AreEqual (held_in g) (object m) (object o.0)) (sym t_is) (subst (λ (x : ℕ). AreEqual (held_in g) (object n) x) node equal_member);
+          first = λ m _ h.
+              let same = follows_one_class g.members.items (cells_of g.state) complete (n + 2) (m + 2) (subst (λ (k : ℕ). AreEqual (held_in g) (object k) (object m)) t_is h) in
+              let f = l.first (m + 2) (sym same) in
+              omega (arith, f, least_is, node, rank_high (m + 2) (omega arith));
+        }

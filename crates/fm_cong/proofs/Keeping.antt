@@ -52,7 +52,7 @@ module _ (g : Inside) (f : IsFaithful g) where
   uses_lent shapes uses p q = subst (λ (ss : List Shape). AreUses ss uses) (sym p) (subst (AreUses g.members.items) (sym q) f.uses)
 
   module _ (h : Held) (view : held_in g ≡ h) where
-    registered_in : (n : ℕ) → IsRegistered h.shapes n → IsRegistered g.members.items n
+    pub registered_in : (n : ℕ) → IsRegistered h.shapes n → IsRegistered g.members.items n
     registered_in n r = subst (λ (k : Held). IsRegistered k.shapes n) (sym view) r
 
     pub node_in : (n : ℕ) → IsRegistered h.shapes n → n + 2 < count_of g.state

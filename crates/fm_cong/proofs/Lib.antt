@@ -21,7 +21,6 @@ pub mod Running
 pub mod Stacking
 pub mod Tabled
 pub mod Tracing
-pub mod Tracking
 pub mod Walks
 pub mod Whole
 pub mod Widening

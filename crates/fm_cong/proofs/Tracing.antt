@@ -1,5 +1,5 @@
 -- The index of the false equalities beside a state, through what is read, marked and taken back.
-use Rattle.std.proofs.Common.{◌≡◌, ℕ, zero, suc, ◌+◌, ◌<◌, ◌≤◌, Bool, true, false, List, [], ◌∷◌, ◌++◌, length, map, take, inl, inr, refl, sym, subst, ap, ◌∙◌, arith, get_or}
+use Rattle.std.proofs.Common.{◌≡◌, ℕ, zero, suc, ◌+◌, ◌<◌, ◌≤◌, Bool, true, false, List, [], ◌∷◌, ◌++◌, length, map, take, length-append, inl, inr, refl, sym, subst, ap, ◌∙◌, arith, get_or}
 use Rattle.std.specs.List.{All, cons_option}
 use Rattle.std.proofs.lemmas.Bool.{cases_lt}
 use Rattle.std.proofs.lemmas.List.{get_or-take, length_push}
@@ -10,7 +10,7 @@ use Rattle.fm_cells.specs.Apart.{ArePairsWithin, HasRoots, IsIndexed, IsIndexedA
 use Rattle.fm_cells.specs.Rings.{own_or}
 use Rattle.fm_cells.specs.declared.apart.Apart.{Apart}
 use Rattle.fm_cells.specs.declared.apart.Cut.{Cut}
-use Rattle.fm_cells.proofs.Exchanging.{logged_written}
+use Rattle.fm_cells.proofs.Writing.{logged_written}
 use Rattle.fm_cong.specs.Facts.{AreAtomsBelow, IsAtomBelow, numbers_of_pair, unequal_of, unequal_sides}
 use Rattle.fm_cong.specs.Graphs.{Cells}
 use Rattle.fm_cong.specs.Levels.{IsBefore, IsInside, IsMarkOf, KeepsClasses, LogsClasses, RestoresClasses, class_at}
@@ -42,7 +42,11 @@ module _ (s t : State) (a b : Apart) (marks : List Mark) (cuts : List Cut) (insi
 
 pub indexed_after : (s t : State) (a b : Apart) (from : Mark) → LogsClasses s t → from.class ≡ length s.classes.class.log.items → KeepsJoined s t → HasRoots (class_in t) → FollowsJoinsSince t from a b → IsIndexed (class_in s) a → IsIndexed (class_in t) b
 indexed_after s t a b from l p coarser roots f h =
-    f s.classes.class.cells.items (logged_written s.classes.class.log.items s.classes.class.cells.items t.classes.class.log.items t.classes.class.cells.items from.class l.class p) coarser roots h
+    f s.classes.class.cells.items (logged_written s.classes.class.log.items s.classes.class.cells.items t.classes.class.log.items t.classes.class.cells.items from.class l p) coarser roots h
+
+-- the log isn't shorter than it was
+pub from_within : (s t : State) (from : Mark) → LogsClasses s t → from.class ≡ length s.classes.class.log.items → from.class ≤ length t.classes.class.log.items
+from_within s t from l e = omega (arith, e, ap length l.grown, length-append s.classes.class.log.items l.tail)
 
 pub indexed_same : (s t : State) (a : Apart) → class_in t ≡ class_in s → IsIndexed (class_in s) a → IsIndexed (class_in t) a
 indexed_same s t a e h = subst (λ (f : ℕ → ℕ). IsIndexed f a) (sym e) h

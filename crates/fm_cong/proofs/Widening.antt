@@ -69,7 +69,7 @@ module _ (s t : State) (logs : AreSameLogs s.classes t.classes) (links_log : t.l
       entered = entered;
       nodes = omega (arith, ap length same.class);
       links = ap trimmed links;
-      roots = λ shapes h. record { class = ap own_or same.class; root = ap root_or same.size };
+      now = ap own_or same.class;
     }
 
   module _ (node : HasNode s.classes t.classes) (links : t.links.cells.items ≡ s.links.cells.items ++ None ∷ []) where
@@ -98,14 +98,11 @@ module _ (s t : State) (logs : AreSameLogs s.classes t.classes) (links_log : t.l
       entered = entered;
       nodes = omega (arith, ap length node.class, length_push s.classes.class.cells.items (length s.classes.class.cells.items));
       links = ap trimmed links ∙ trimmed_push s.links.cells.items;
-      roots = λ shapes h. record {
-        class = ap own_or node.class ∙ own_push s.classes.class.cells.items (length s.classes.class.cells.items) refl;
-        root = ap root_or node.size ∙ root_push s.classes.size.cells.items (length s.classes.class.cells.items) (sym h.working.sizes);
-      };
+      now = ap own_or node.class ∙ own_push s.classes.class.cells.items (length s.classes.class.cells.items) refl;
     }
 
 pub keeps_none : (s : State) → KeepsAll s s
-keeps_none s = record { steady = λ shapes h. h; marks = λ shapes m k. k; inside = λ m h. h; classes = λ m h. refl; quiet = refl; facts = refl; entered = refl; nodes = omega arith; links = refl; roots = λ shapes h. record { class = refl; root = refl } }
+keeps_none s = record { steady = λ shapes h. h; marks = λ shapes m k. k; inside = λ m h. h; classes = λ m h. refl; quiet = refl; facts = refl; entered = refl; nodes = omega arith; links = refl; now = refl }
 
 pub keeps_more : (a b c : State) → KeepsAll a b → KeepsAll b c → KeepsAll a c
 keeps_more a b c p q = record {
@@ -118,10 +115,7 @@ keeps_more a b c p q = record {
   entered = q.entered ∙ p.entered;
   nodes = omega (arith, p.nodes, q.nodes);
   links = q.links ∙ p.links;
-  roots = λ shapes h.
-      let first = p.roots shapes h in
-      let second = q.roots shapes (p.steady shapes h) in
-      record { class = second.class ∙ first.class; root = second.root ∙ first.root };
+  now = q.now ∙ p.now;
 }
 
 -- what is said of classes once room was made

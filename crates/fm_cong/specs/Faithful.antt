@@ -3,13 +3,12 @@ use Rattle.std.specs.Prelude.{◌≡◌, ℕ, ◌≤◌, ◌<◌, Bool, List, []
 use Rattle.std.specs.List.{All, slice_index_or}
 use Rattle.fm_bank.specs.Closure.{Shape}
 use Rattle.fm_cells.specs.Forest.{trimmed}
-use Rattle.fm_cells.specs.Oldest.{AreRight, IsReady, no_more}
 use Rattle.fm_cong.specs.Facts.{AreAtomsBelow}
 use Rattle.fm_cong.specs.Graphs.{cells_of}
 use Rattle.fm_cong.specs.Growth.{AreFlags}
 use Rattle.fm_cong.specs.Held.{Held, JoinsRegistered}
 use Rattle.fm_cong.specs.Levels.{IsBefore, IsKept, IsSteady, levels_of}
-use Rattle.fm_cong.specs.States.{class_in, count_of, root_in}
+use Rattle.fm_cong.specs.States.{count_of}
 use Rattle.fm_cong.specs.Tables.{AreUses}
 use Rattle.fm_cong.specs.Tracked.{HasPairsOf, IsTracked}
 use Rattle.fm_cong.specs.Types.{AreSorts}
@@ -37,15 +36,13 @@ pub record IsSound (shapes : List Shape) (places : List (List ℕ)) (set : List 
 abbrev pub IsFaithful : Inside → Type 0
 IsFaithful g = IsSound g.members.items g.uses.items g.flags.items g.state g.marks.items
 
--- the lists beside the state: the sides of the false equalities with their classes, and the first term of each class of a sort
+-- the lists beside the state: the sides of the false equalities with their classes, and the terms of each sort
 pub record IsWhole (g : Inside) : Type 0 where
   pub sound : IsFaithful g
   pub unequal : HasPairsOf g.state.facts.items g.apart
   pub tracked : IsTracked g.state g.apart g.marks.items g.cuts.items
   pub read : All (λ (f : Fact). JoinsRegistered g.members.items f.atom) g.state.facts.items
-  pub sorts : AreSorts g.members.items g.types.items g.oldest
-  pub ready : IsReady g.oldest no_more
-  pub right : AreRight g.oldest (class_in g.state) (root_in g.state)
+  pub sorts : AreSorts g.members.items g.types.items g.sorts
 
 abbrev pub held_in : Inside → Held
 held_in g = record { shapes = g.members.items; types = g.types.items; facts = g.state.facts.items; levels = levels_of g.state.facts.items g.marks.items; entered = g.state.entered; links = trimmed g.state.links.cells.items }

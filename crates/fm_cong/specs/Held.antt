@@ -88,6 +88,10 @@ pub record Registers (old new : Held) (terms : List Term) (n : ℕ) : Type 0 whe
 abbrev pub HasArguments : List Shape → List Term → ℕ → Type 0
 HasArguments shapes terms n = (t : Term) → slice_get terms n ≡ Some t → All (IsRegistered shapes) t.args
 
+-- both sides of a pair are registered
+abbrev pub AreSidesRegistered : List Shape → TermId × TermId → Type 0
+AreSidesRegistered shapes p = IsRegistered shapes p.0.0 × IsRegistered shapes p.1.0
+
 -- an equality or a predicate atom whose terms are registered
 abbrev pub JoinsRegistered : List Shape → Atom → Type 0
 JoinsRegistered shapes (Atom.Equal a b) = IsRegistered shapes a.0 × IsRegistered shapes b.0

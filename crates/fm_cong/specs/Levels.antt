@@ -3,8 +3,8 @@ use Rattle.std.specs.Prelude.{◌≡◌, ℕ, ◌≤◌, List, [], length, map, 
 use Rattle.std.specs.List.{All}
 use Rattle.fm_bank.specs.Closure.{Shape}
 use Rattle.fm_cells.specs.Forest.{trimmed}
-use Rattle.fm_cells.specs.Logs.{HasLogged, WereWritten, restored}
-use Rattle.fm_cells.specs.Rings.{own_or, root_or}
+use Rattle.fm_cells.specs.Logs.{HasLogged, restored}
+use Rattle.fm_cells.specs.Rings.{own_or}
 use Rattle.fm_cong.specs.Graphs.{Cells, IsWorking, cells_of, pairs_of}
 use Rattle.fm_cong.specs.Tables.{HasGrown}
 use Rattle.fm_cong.specs.declared.fact.Fact.{Fact}
@@ -87,49 +87,18 @@ pub record IsRewound (s : State) (m : Mark) (new : State) : Type 0 where
   pub entered : new.entered ≡ m.entered
   pub waiting : new.waiting.items ≡ []
 
--- the classes are as they were at the mark, and the entries of what was written tell what has changed
-pub record TakesBack (s : State) (m : Mark) (new : State) : Type 0 where
-  pub class : new.classes.class.cells.items ≡ restored (drop m.class s.classes.class.log.items) s.classes.class.cells.items
-  pub size : new.classes.size.cells.items ≡ restored (drop m.size s.classes.size.log.items) s.classes.size.cells.items
-  pub class_log : take m.class new.classes.class.log.items ≡ take m.class s.classes.class.log.items
-  pub size_log : take m.size new.classes.size.log.items ≡ take m.size s.classes.size.log.items
-  pub class_long : length new.classes.class.log.items ≡ length s.classes.class.log.items
-  pub size_long : length new.classes.size.log.items ≡ length s.classes.size.log.items
-  pub moved : WereWritten (drop m.class new.classes.class.log.items) s.classes.class.cells.items new.classes.class.cells.items
-  pub roots : WereWritten (drop m.size new.classes.size.log.items) s.classes.size.cells.items new.classes.size.cells.items
-  pub next : new.classes.next ≡ s.classes.next
-  pub links : new.links ≡ s.links
-  pub table : new.table ≡ s.table
-  pub facts : new.facts ≡ s.facts
-
-pub record IsCut (s : State) (m : Mark) (new : State) : Type 0 where
-  pub class : new.classes.class.cells.items ≡ s.classes.class.cells.items
-  pub size : new.classes.size.cells.items ≡ s.classes.size.cells.items
-  pub next : new.classes.next.cells.items ≡ restored (drop m.next s.classes.next.log.items) s.classes.next.cells.items
-  pub links : new.links.cells.items ≡ restored (drop m.links s.links.log.items) s.links.cells.items
-  pub class_log : new.classes.class.log.items ≡ take m.class s.classes.class.log.items
-  pub next_log : new.classes.next.log.items ≡ take m.next s.classes.next.log.items
-  pub size_log : new.classes.size.log.items ≡ take m.size s.classes.size.log.items
-  pub links_log : new.links.log.items ≡ take m.links s.links.log.items
-  pub table : new.table.entries ≡ take m.table s.table.entries
-  pub facts : new.facts.items ≡ take m.facts s.facts.items
-  pub entered : new.entered ≡ m.entered
-  pub waiting : new.waiting.items ≡ []
-
 -- an undo to a mark comes back to a steady state
 pub record IsKept (shapes : List Shape) (s : State) (m : Mark) : Type 0 where
   pub inside : IsInside s m
   pub steady : IsSteady shapes (cells_at s m)
 
--- each node is of the class it was, and what is kept of each class is what it was
-pub record AreSameRoots (old new : State) : Type 0 where
-  pub class : own_or new.classes.class.cells.items ≡ own_or old.classes.class.cells.items
-  pub root : root_or new.classes.size.cells.items ≡ root_or old.classes.size.cells.items
+-- each node is of the class it was
+abbrev pub HasSameClasses : State → State → Type 0
+HasSameClasses old new = own_or new.classes.class.cells.items ≡ own_or old.classes.class.cells.items
 
--- what was written of the classes is in their logs
-pub record LogsClasses (old new : State) : Type 0 where
-  pub class : HasLogged old.classes.class.log.items old.classes.class.cells.items new.classes.class.log.items new.classes.class.cells.items
-  pub size : HasLogged old.classes.size.log.items old.classes.size.cells.items new.classes.size.log.items new.classes.size.cells.items
+-- what was written of the classes of nodes is in their log
+abbrev pub LogsClasses : State → State → Type 0
+LogsClasses old new = HasLogged old.classes.class.log.items old.classes.class.cells.items new.classes.class.log.items new.classes.class.cells.items
 
 -- each node's class at each mark stays
 abbrev pub KeepsClasses : State → State → Type 0
@@ -151,10 +120,6 @@ KeepsMarksBefore mark old new = (shapes : List Shape) (m : Mark) → IsBefore m 
 abbrev pub KeepsSteady : State → State → Type 0
 KeepsSteady old new = (shapes : List Shape) → IsSteady shapes (cells_of old) → IsSteady shapes (cells_of new)
 
--- what is kept of each class stays
-abbrev pub KeepsRoots : State → State → Type 0
-KeepsRoots old new = (shapes : List Shape) → IsSteady shapes (cells_of old) → AreSameRoots old new
-
 -- the link of each node stays
 abbrev pub KeepsLinks : State → State → Type 0
 KeepsLinks old new = trimmed new.links.cells.items ≡ trimmed old.links.cells.items
@@ -170,7 +135,7 @@ pub record KeepsAll (old new : State) : Type 0 where
   pub entered : new.entered ≡ old.entered
   pub nodes : length old.classes.class.cells.items ≤ length new.classes.class.cells.items
   pub links : KeepsLinks old new
-  pub roots : KeepsRoots old new
+  pub now : HasSameClasses old new
 
 -- where all terms were entered, all are
 abbrev pub StaysSettled : State → List Shape → State → List Shape → Type 0

@@ -1,11 +1,8 @@
 -- What is said of a state as a whole: its classes, its links and the facts it has read.
 use Rattle.std.specs.Prelude.{◌≡◌, ◌<◌, ◌==◌, ℕ, Bool, true, false, if◌then◌else◌, List, length, Option, Some, None}
-use Rattle.fm_base.specs.declared.ids.SortId.{SortId}
 use Rattle.fm_bank.specs.Closure.{Follows, Shape, no, object, yes}
 use Rattle.fm_cells.specs.Forest.{link_of}
-use Rattle.fm_cells.specs.Oldest.{kind_of}
 use Rattle.fm_cells.specs.Rings.{own_or, root_or}
-use Rattle.fm_cells.specs.declared.oldest.Oldest.{Oldest}
 use Rattle.fm_cells.specs.declared.rings.Root.{Root}
 use Rattle.fm_cells.specs.declared.edge.Cause.{Cause}
 use Rattle.fm_cong.specs.Graphs.{IsCoarser, IsWorking, cells_of, pairs_of, roots}
@@ -27,10 +24,6 @@ class_in s = own_or s.classes.class.cells.items
 
 abbrev pub root_in : State → ℕ → Root
 root_in s = root_or s.classes.size.cells.items
-
--- each term whose sort is noted has its node
-abbrev pub HasNodes : Oldest → State → Type 0
-HasNodes o s = (n : ℕ) (k : SortId) → kind_of o n ≡ Some k → object n < count_of s
 
 abbrev pub AreOfOneClass : State → ℕ → ℕ → Type 0
 AreOfOneClass s a b = class_in s a ≡ class_in s b

@@ -1,7 +1,7 @@
 ghost use Rattle.std.specs.Prelude.{◌≡◌, ◌<◌, ◌≤◌, ◌++◌, ◌∷◌, [], length, OnOk, OnErr};
 ghost use Rattle.fm_cong.specs.Graphs.{cells_of};
 ghost use Rattle.fm_cong.specs.Growth.{AreBelow, HasMoreUses, HasPlace, SayTheSame};
-ghost use Rattle.fm_cong.specs.Levels.{AreSameRoots, IsSteady, KeepsAll, KeepsClasses, KeepsLinks, KeepsMarks, LogsClasses, StaysSettled};
+ghost use Rattle.fm_cong.specs.Levels.{HasSameClasses, IsSteady, KeepsAll, KeepsClasses, KeepsLinks, KeepsMarks, LogsClasses, StaysSettled};
 ghost use Rattle.fm_cong.specs.States.{KeepsJoined, count_of};
 ghost use Rattle.fm_cong.specs.Tables.{AreUses, IsKnown};
 
@@ -68,7 +68,7 @@ pub(crate) fn put_member(
     ensures logged { OnOk result (LogsClasses state.old state.new) }
     ensures coarser { OnOk result (KeepsJoined state.old state.new) }
     ensures classes { KeepsClasses state.old state.new }
-    ensures roots { OnErr result (AreSameRoots state.old state.new) }
+    ensures same { OnErr result (HasSameClasses state.old state.new) }
     ensures links { OnErr result (KeepsLinks state.old state.new) }
 {
     let before = members.len();

@@ -1,14 +1,15 @@
 ghost use Rattle.std.specs.Prelude.{◌≡◌, ◌<◌, ◌↔◌, ◌++◌, ◌∷◌, [], List, IsTrue, length, map, option_map, slice_get, take, false, true, Some, IfNone, IfOk, IfSome, OnOk, OnErr};
+ghost use Rattle.std.specs.List.{All};
 ghost use Rattle.fm_bank.specs.Closure.{object};
 ghost use Rattle.fm_cong.specs.Held.{AreEqual, AreUnequal, HasArguments, IsReadable, IsRegistered, IsSettled, IsTruth};
 ghost use Rattle.fm_cong.specs.Clashes.{HasNoClash, IsClash};
 ghost use Rattle.fm_cong.specs.Explained.{IsExplained};
-ghost use Rattle.fm_cong.specs.Held.{HasSameTerms, ReadsLiteral, Registers};
+ghost use Rattle.fm_cong.specs.Held.{AreSidesRegistered, HasSameTerms, ReadsLiteral, Registers};
 ghost use Rattle.fm_cong.specs.Held.{NotesType, all_entered, is_registered, link_held, nothing};
 ghost use Rattle.fm_cong.specs.Facts.{numbers_of_pair, unequal_of};
 ghost use Rattle.fm_cong.specs.Links.{edge_of, node_of};
 ghost use Rattle.fm_cong.specs.Tests.{HasTests};
-ghost use Rattle.fm_cong.specs.Types.{AreOldest};
+ghost use Rattle.fm_cong.specs.Types.{AreOldest, IsOldestOf};
 ghost use Rattle.fm_cong.specs.declared.fact.Fact.{Fact as TheFact};
 
 use crate::additions::{make_room, put_member};
@@ -28,7 +29,7 @@ use crate::track::{put_cut, track};
 use crate::types::{announce_type, note_type};
 use fm_bank::Bank;
 use fm_base::{AtomId, Memory, SortId, TermId, Ty, Undo};
-use fm_cells::{Apart, Cut, Edge, Oldest, Places};
+use fm_cells::{Apart, Cut, Edge, Places, Sorts, first_terms};
 use std::alloc::Global;
 use std::marker::Model;
 
@@ -45,7 +46,7 @@ pub struct Egraph {
     uses: Vec<Places>,
     state: State,
     apart: Apart,
-    oldest: Oldest,
+    sorts: Sorts,
     marks: Vec<Mark>,
     cuts: Vec<Cut>,
 }
@@ -76,7 +77,7 @@ impl Egraph {
             uses: Vec::new(alloc),
             state,
             apart: Apart::new(alloc),
-            oldest: Oldest::new(alloc),
+            sorts: Sorts::new(alloc),
             marks: Vec::new(alloc),
             cuts: Vec::new(alloc),
         })
@@ -97,7 +98,7 @@ impl Egraph {
         let ty = bank.ty(term);
         let member = member_of(self.alloc, bank, term)?;
         let place = self.members.len();
-        announce_type(self.alloc, &mut self.types, &mut self.oldest, term, ty)?;
+        announce_type(self.alloc, &mut self.types, &mut self.sorts, ty)?;
         make_room(
             self.alloc,
             &mut self.state,
@@ -115,9 +116,8 @@ impl Egraph {
             member,
         )?;
         self.flags[term.0] = true;
-        note_type(&mut self.types, &mut self.oldest, term, ty);
-        track(&self.state, &mut self.apart, &mut self.oldest, from);
-        self.oldest.correct(&self.state.classes, term.0 + 2);
+        note_type(&mut self.types, &mut self.sorts, term, ty);
+        track(&self.state, &mut self.apart, from);
         Ok(())
     }
 
@@ -144,7 +144,7 @@ impl Egraph {
         let from = mark_of(&self.state);
         let members = self.members.as_slice();
         settle(self.alloc, &mut self.state, members, self.uses.as_slice())?;
-        track(&self.state, &mut self.apart, &mut self.oldest, from);
+        track(&self.state, &mut self.apart, from);
         Ok(())
     }
 
@@ -165,7 +165,7 @@ impl Egraph {
             self.uses.as_slice(),
             fact,
         )?;
-        track(&self.state, &mut self.apart, &mut self.oldest, from);
+        track(&self.state, &mut self.apart, from);
         Ok(())
     }
 
@@ -188,7 +188,7 @@ impl Egraph {
             self.uses.as_slice(),
             fact,
         )?;
-        track(&self.state, &mut self.apart, &mut self.oldest, from);
+        track(&self.state, &mut self.apart, from);
         let class = &self.state.classes.class;
         note_pair(self.alloc, &mut self.apart, class, fact);
         Ok(())
@@ -197,7 +197,8 @@ impl Egraph {
     /// The sides of the false equalities read, in the order in which they were read. Two terms are apart exactly where one of
     /// these pairs has a side that is equal to each.
     pub fn unequal_pairs(&self) -> &[(TermId, TermId)]
-        ensures { map numbers_of_pair result.now ≡ unequal_of self.now.facts }
+        ensures pairs { map numbers_of_pair result.now ≡ unequal_of self.now.facts }
+        ensures registered { All (AreSidesRegistered self.now.shapes) result.now }
     {
         self.apart.pairs.as_slice()
     }
@@ -244,12 +245,24 @@ impl Egraph {
     }
 
     /// The oldest term of each class of a sort of a settled graph, in ascending order: a term is older than another where its
-    /// number is smaller. It takes no memory.
-    pub fn classes(&self, sort: SortId) -> &[TermId]
+    /// number is smaller. The list is made anew, by one pass over the registered terms of the sort.
+    pub fn classes(&self, sort: SortId) -> Result<Vec<TermId>, Memory>
         requires settled { IsSettled self.now }
-        ensures oldest { AreOldest self.now sort result.now }
+        ensures oldest { IfOk result (λ v. AreOldest self.now sort v.items) }
     {
-        self.oldest.terms(sort)
+        let terms = self.sorts.terms(sort);
+        let oldest = first_terms(self.alloc, &self.state.classes, terms)?;
+        Ok(oldest)
+    }
+
+    /// The oldest term of the class of a registered term of a settled graph. It takes no memory.
+    pub fn oldest_of(&self, term: TermId) -> TermId
+        requires settled { IsSettled self.now }
+        requires term { IsRegistered self.now.shapes term.0 }
+        ensures { IsOldestOf self.now term result }
+    {
+        let least = self.state.classes.least(term.0 + 2);
+        TermId(least.saturating_sub(2))
     }
 
     /// The explanation forest of a settled graph: the link of each node, where 0 is yes, 1 is no and the term n is n + 2; a
@@ -313,12 +326,7 @@ impl Undo for Egraph {
     {
         let mark = self.marks[level];
         let cut = self.cuts[level];
-        undo(
-            &mut self.state,
-            &mut self.oldest,
-            self.members.as_slice(),
-            mark,
-        );
+        undo(&mut self.state, self.members.as_slice(), mark);
         self.apart.rewind(cut);
         self.marks.truncate(level);
         self.cuts.truncate(level);

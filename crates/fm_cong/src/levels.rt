@@ -1,9 +1,7 @@
 ghost use Rattle.std.specs.Prelude.{◌≡◌, ◌≤◌, ◌<◌, ◌↔◌, ◌+◌, ◌++◌, ◌∷◌, [], length, take, Some, OnOk, OnErr, IsTrue};
 ghost use Rattle.fm_cong.specs.Graphs.{cells_of};
 ghost use Rattle.fm_cong.specs.Levels.{IsAfter, IsInside, IsKept, IsMarkOf, IsRewound, IsComplete, IsSteady, KeepsClasses, RestoresClasses};
-ghost use Rattle.fm_cong.specs.Levels.{IsCut, KeepsMarks, KeepsMarksBefore, LogsClasses, TakesBack};
-ghost use Rattle.fm_cells.specs.Oldest.{AreRight, HasSameKinds, IsReady, no_more};
-ghost use Rattle.fm_cong.specs.States.{HasNodes, class_in, root_in};
+ghost use Rattle.fm_cong.specs.Levels.{KeepsMarks, KeepsMarksBefore, LogsClasses};
 ghost use Rattle.fm_cong.specs.States.{AreRelated, IsAtWork, IsNode, KeepsJoined, count_of};
 ghost use Rattle.fm_cong.specs.Paths.{joined_by};
 ghost use Rattle.fm_cong.specs.Tables.{AreUses};
@@ -15,7 +13,7 @@ use crate::member::Member;
 use crate::state::State;
 use crate::table::enter;
 use fm_base::Memory;
-use fm_cells::{Cause, Oldest, Places};
+use fm_cells::{Cause, Places};
 use std::alloc::Global;
 
 // Where a state is now.
@@ -194,36 +192,9 @@ pub(crate) fn settle(
     }
 }
 
-// Takes the writes of the classes back, and leaves their entries.
-fn take_back(state: &mut State, mark: Mark)
-    requires { IsInside state.old mark }
-    ensures { TakesBack state.old mark state.new }
-{
-    state.classes.class.take_back(mark.class);
-    state.classes.size.take_back(mark.size);
-}
-
-// Takes back all else that was written since a mark, and forgets the entries.
-fn cut(state: &mut State, to: Mark)
-    requires { IsInside state.old to }
-    ensures { IsCut state.old to state.new }
-{
-    state.classes.class.cut(to.class);
-    state.classes.size.cut(to.size);
-    state.classes.next.rewind(to.next);
-    state.links.rewind(to.links);
-    state.table.truncate(to.table);
-    state.facts.truncate(to.facts);
-    state.waiting.truncate(0);
-    state.entered = to.entered;
-}
-
-// Goes back to a mark; the lists of first terms follow. It takes no memory.
-pub(crate) fn undo(state: &mut State, oldest: &mut Oldest, members: &[Member], mark: Mark)
+// Goes back to a mark. It takes no memory.
+pub(crate) fn undo(state: &mut State, members: &[Member], mark: Mark)
     requires kept { IsKept members.now state.old mark }
-    requires ready { IsReady oldest.old no_more }
-    requires known { HasNodes oldest.old state.old }
-    requires right { AreRight oldest.old (class_in state.old) (root_in state.old) }
     ensures steady { IsSteady members.now (cells_of state.new) }
     ensures quiet { state.new.waiting.items ≡ [] }
     ensures facts { state.new.facts.items ≡ take mark.facts state.old.facts.items }
@@ -231,14 +202,9 @@ pub(crate) fn undo(state: &mut State, oldest: &mut Oldest, members: &[Member], m
     ensures kept { KeepsMarksBefore mark state.old state.new }
     ensures classes { RestoresClasses state.old mark state.new }
     ensures nodes { count_of state.new ≡ count_of state.old }
-    ensures ready { IsReady oldest.new no_more }
-    ensures kinds { HasSameKinds oldest.old oldest.new }
-    ensures right { AreRight oldest.new (class_in state.new) (root_in state.new) }
 {
     let _members = members;
-    take_back(state, mark);
-    oldest.follow(&state.classes, mark.class, mark.size);
-    cut(state, mark);
+    rewind(state, mark);
 }
 
 // Whether two nodes of a settled state are of one class: exactly where the closure of the facts read joins them.

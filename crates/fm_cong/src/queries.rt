@@ -74,7 +74,9 @@ pub(crate) fn is_apart(state: &State, apart: &Apart, node: usize, other: usize) 
 {
     let class = &state.classes.class;
     if apart.whole {
-        apart.stands_between(class.get(node), class.get(other))
+        let c = class.get(node);
+        let d = class.get(other);
+        apart.stands_from(c, d) || apart.stands_from(d, c)
     } else {
         is_apart_by_facts(state, node, other)
     }

@@ -24,8 +24,9 @@ const TERMS: &[u8] = b"a.b.c.faf1f2fbpapbpc";
 // Registers a term (r), reads an equation (=) or its negation (/), a true (y) or a false (n) predicate term, opens a level
 // (m), goes back to one (u), settles (s); and asks: are two terms equal (?) or not (#), apart (|) or not (:), is a term
 // true (T), false (F) or neither (0), is there no clash (_), or one (!) of an atom (=) or of two terms, which are the oldest
-// of their classes (c), of which there are three at most, and to which node does one link (>), or to none (.).
-const CASES: [&[u8]; 9] = [
+// of their classes (c), of which there are three at most, which is the oldest of a class (o), which one pair is unequal (p)
+// or none (.), and to which node does one link (>), or to none (.).
+const CASES: [&[u8]; 11] = [
     // f applied three times and twice to a leaves a
     b"r a r 1 r 2 r 3 =a3 #a1 =a2 ?a1 ?12",
     // terms that are registered above a level are joined again after an undo below it
@@ -40,6 +41,10 @@ const CASES: [&[u8]; 9] = [
     b"r a r b r c cabcm   =bc cab.=ac ca..u 0 cabc",
     // and those of terms that are registered above a level
     b"r c m   r a =ac ca..u 0 s   cac.r b cabc",
+    // the oldest of a class whose terms are registered in another order, and one that is joined with yes
+    b"r c r b r a occ =bc ocb obb oaa =ac oca oba m   r p y p opp r 1 =a1 o1a u 0 s   o11 opp",
+    // the pair of a level goes with it
+    b"r a r b r c p.  /bc pbc m   /ab u 0 pbc :ab |bc",
     // the links of the forest: a way up is turned round where its node is hung elsewhere, and an undo turns it back
     b"r a r b r c r 1 r p >a. =ab >ab >b. =c1 >c1 m   =a1 >ba >a1 >c1 y p >pY >Y. u 0 >ab >b. >c1 >p.",
     // two levels
@@ -212,9 +217,25 @@ fn have_letters(list: &[TermId], letters: &[u8]) -> bool {
     true
 }
 
-fn list_classes(rt: &impl Abort, graph: &Egraph, step: &[u8]) {
+fn list_classes(rt: &impl Abort, graph: &Egraph, step: &[u8]) -> Result<(), Memory> {
     assert!(rt; graph.is_settled());
-    assert!(rt; have_letters(graph.classes(SortId(0)), step.get(1..).unwrap_or(&[])));
+    let oldest = graph.classes(SortId(0))?;
+    assert!(rt; have_letters(oldest.as_slice(), step.get(1..).unwrap_or(&[])));
+    Ok(())
+}
+
+fn look_for_oldest(rt: &impl Abort, graph: &Egraph, of: TermId, oldest: TermId) {
+    assert!(rt; graph.is_settled() && graph.is_registered(of));
+    assert_eq!(rt; graph.oldest_of(of), oldest);
+}
+
+// Whether the sides of the pairs of unequal terms have these letters.
+fn have_sides(pairs: &[(TermId, TermId)], letters: &[u8]) -> bool {
+    match (pairs, letters) {
+        ([(a, b)], [x, y, ..]) => *a == term(*x) && *b == term(*y),
+        ([], [b'.', ..]) => true,
+        _ => false,
+    }
 }
 
 // A level of the graph by its digit; the graph tells how many are open by the number of the next one alone.
@@ -259,8 +280,13 @@ fn run(rt: &impl Abort, graph: &mut Egraph, bank: &mut Bank, step: &[u8]) -> Res
             tell(rt, graph, step, term(*x));
             Ok(())
         }
-        [b'c', ..] => {
-            list_classes(rt, graph, step);
+        [b'c', ..] => list_classes(rt, graph, step),
+        [b'o', x, y, ..] => {
+            look_for_oldest(rt, graph, term(*x), term(*y));
+            Ok(())
+        }
+        [b'p', ..] => {
+            assert!(rt; have_sides(graph.unequal_pairs(), step.get(1..).unwrap_or(&[])));
             Ok(())
         }
         [b'>', x, y, ..] => {

@@ -5,7 +5,7 @@ use Rattle.std.specs.List.{AllByRecursion, Contains, IsDistinct, filter, range_w
 use Rattle.std.proofs.lemmas.Bool.{cases_Bool, eq-eqb, eqb-true, false≢true, or_cases, or_left, or_right}
 use Rattle.fm_base.specs.declared.ids.TermId.{TermId}
 use Rattle.fm_bank.specs.Terms.{numbers}
-use Rattle.fm_cells.specs.Fronts.{IsAscending}
+use Rattle.fm_cells.specs.Ascending.{IsAscending}
 use Rattle.fm_region.specs.Parts.{Up}
 use Rattle.fm_bank.specs.Regions.{is_in}
 use Rattle.fm_region.proofs.Members.{first_in}

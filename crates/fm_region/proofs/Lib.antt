@@ -4,9 +4,11 @@ pub mod Cliques
 pub mod Counting
 pub mod Covering
 pub mod Ends
+pub mod Few
 pub mod Fronts
 pub mod Joining
 pub mod Keeping
+pub mod Making
 pub mod Members
 pub mod Naming
 pub mod Opening

@@ -7,16 +7,15 @@ use Rattle.std.proofs.lemmas.List.{length-map, length-take-le, take-map}
 use Rattle.std.proofs.lemmas.List.FromFn.{length-range_with_len}
 use Rattle.fm_base.specs.declared.ids.SortId.{SortId}
 use Rattle.fm_base.specs.declared.ids.TermId.{TermId}
-use Rattle.fm_bank.specs.Closure.{AreApart, Shape}
 use Rattle.fm_bank.specs.Terms.{numbers}
-use Rattle.fm_cong.specs.Facts.{pairs_of, unequal_of}
+use Rattle.fm_cells.specs.Ascending.{IsAscending}
 use Rattle.fm_cong.specs.Held.{Held as Graph}
 use Rattle.fm_cong.specs.Types.{AreOldest}
 use Rattle.fm_region.specs.Answers.{IsFoundIn, IsSplit, IsStrong, IsStrongOf, are_apart, test_of}
-use Rattle.fm_region.specs.Held.{AreGrownOf, AreRegionsOf, AreTestsOf}
-use Rattle.fm_region.specs.Parts.{IsPart, IsTable, Up}
+use Rattle.fm_region.specs.Held.{AreGrownOf, AreTestsOf}
+use Rattle.fm_region.specs.Parts.{IsPart, Up}
 use Rattle.fm_bank.specs.Regions.{Cover, after_join, closed, closed_within, first_large, grown, grown_regions, grown_within, is_in, must_grow, region_at, regions_at}
-use Rattle.fm_region.specs.Rows.{AreRows, apart_in, number_at}
+use Rattle.fm_region.specs.Rows.{apart_in, number_at}
 use Rattle.fm_bank.specs.Tests.{Tests}
 use Rattle.fm_region.specs.declared.strong.Strong.{Strong}
 use Rattle.fm_region.proofs.Ascending.{ascending_up, contains_in, in_contains, in_range, range_up, same_up, up_at, up_distinct, up_filter, up_take}
@@ -43,26 +42,6 @@ in_take (suc n) (x ∷ xs) c h = elim (or_cases (c == x) (is_in (take n xs) c) h
   | inl same ↦ or_left (c == x) (is_in xs c) same
   | inr rest ↦ or_right (c == x) (is_in xs c) (in_take n xs c rest)
 ]
-
--- of two terms either is apart from the other
-swapped : (shapes : List Shape) (facts unequal : List (ℕ × ℕ)) (a b : ℕ) → AreApart shapes facts unequal a b → AreApart shapes facts unequal b a
-swapped shapes facts [] a b h = h
-swapped shapes facts (p ∷ unequal) a b (inl (inl h)) = inl (inr h)
-swapped shapes facts (p ∷ unequal) a b (inl (inr h)) = inl (inl h)
-swapped shapes facts (p ∷ unequal) a b (inr h) = inr (swapped shapes facts unequal a b h)
-
-pub is_table : (g : Graph) (terms : List TermId) (rows : List (List Bool)) → AreRows g (numbers terms) rows → (classes : List ℕ) → classes ≡ range_with_len 0 (length terms) → length classes < 2 ^ 64 → IsTable (apart_in rows) classes
-is_table g terms rows are classes e few =
-    let long : length classes ≡ length terms = ap length e ∙ length-range_with_len 0 (length terms) in
-    let named = length-map terms (λ (t : TermId). t.0) in
-    let below : (c : ℕ) → is_in classes c ≡ true → c < length (numbers terms) = λ c h. let r = in_range 0 (length terms) c (subst (λ (cs : List ℕ). is_in cs c ≡ true) e h) in let lt = r.1 in omega (arith, lt, named) in
-    record {
-      places = e ∙ ap (range_with_len 0) (sym long);
-      symmetric = λ c d hc hd. same_bool (apart_in rows c d) (apart_in rows d c)
-          (λ h. (are d (below d hd) c (below c hc)).1 (swapped g.shapes (pairs_of g.facts) (unequal_of g.facts) (number_at (numbers terms) c) (number_at (numbers terms) d) ((are c (below c hc) d (below d hd)).0 h)))
-          (λ h. (are c (below c hc) d (below d hd)).1 (swapped g.shapes (pairs_of g.facts) (unequal_of g.facts) (number_at (numbers terms) d) (number_at (numbers terms) c) ((are d (below d hd) c (below c hc)).0 h)));
-      few = few;
-    }
 
 -- the terms at all places are all terms
 names_from : (f : ℕ → ℕ) (xs : List ℕ) (a : ℕ) → ((i : ℕ) → i < length xs → f (a + i) ≡ get_or xs i 0) → map f (range_with_len a (length xs)) ≡ xs
@@ -139,7 +118,7 @@ are_apart_named f near apart (c ∷ cs) e h =
     (apart_named f near apart c cs (λ d g. e c d (first_in c cs) (later_in c cs d g)) b.0)
     (are_apart_named f near apart cs (λ x d g h. e x d (later_in c cs x g) (later_in c cs d h)) b.1)
 
-module _ (g : Graph) (sort : SortId) (terms : List TermId) (rows : List (List Bool)) (k : ℕ) (old : AreOldest g sort terms) (are : AreRows g (numbers terms) rows) where
+module _ (terms : List TermId) (rows : List (List Bool)) (k : ℕ) (ascending : IsAscending terms) where
   abbrev ns : List ℕ
   ns = numbers terms
 
@@ -153,7 +132,7 @@ module _ (g : Graph) (sort : SortId) (terms : List TermId) (rows : List (List Bo
   near = apart_in rows
 
   ascend : Up ns
-  ascend = ascending_up terms old.ascending
+  ascend = ascending_up terms ascending
 
   below : (c : ℕ) → is_in places c ≡ true → c < length ns
   below c h = let r = in_range 0 (length ns) c h in let lt = r.1 in omega (arith, lt)
@@ -182,28 +161,23 @@ module _ (g : Graph) (sort : SortId) (terms : List TermId) (rows : List (List Bo
   distinct : IsDistinct (λ c d. c == d) places
   distinct = up_distinct places (range_up 0 (length ns))
 
-  module _ (t : Tests) (tests : AreTestsOf g t) where
-    same : (c d : ℕ) → is_in places c ≡ true → is_in places d ≡ true → t.apart (f c) (f d) ≡ near c d
-    same c d hc hd =
-        let row = are c (below c hc) d (below d hd) in
-        same_bool (t.apart (f c) (f d)) (near c d) (λ h. row.1 ((tests.apart_is (f c) (f d)).0 h)) (λ h. (tests.apart_is (f c) (f d)).1 (row.0 h))
+  module _ (apart : ℕ → ℕ → Bool) (agrees : (c d : ℕ) → c < length ns → d < length ns → apart (f c) (f d) ≡ near c d) where
+    same : (c d : ℕ) → is_in places c ≡ true → is_in places d ≡ true → apart (f c) (f d) ≡ near c d
+    same c d hc hd = agrees c d (below c hc) (below d hd)
 
-    abbrev NamedAs : List ℕ → Type 0
-    NamedAs cs = map f places ≡ cs
-
-    pub regions_told : map (map f) (regions_at near places k) ≡ regions_at t.apart ns k
+    pub regions_told : map (map f) (regions_at near places k) ≡ regions_at apart ns k
     regions_told =
         let start = map (λ c. c ∷ []) places in
-        sym (closed_named f near t.apart places k one same (length start) start (λ i. (parts_alone places i).within))
-        ∙ (ap (λ (n : ℕ). closed_within t.apart (map f places) k n (map (map f) start)) (sym (length-map start (map f)))
-        ∙ (ap (closed t.apart (map f places) k) (alone_named f places) ∙ ap (λ (cs : List ℕ). regions_at t.apart cs k) (names ns)))
+        sym (closed_named f near apart places k one same (length start) start (λ i. (parts_alone places i).within))
+        ∙ (ap (λ (n : ℕ). closed_within apart (map f places) k n (map (map f) start)) (sym (length-map start (map f)))
+        ∙ (ap (closed apart (map f places) k) (alone_named f places) ∙ ap (λ (cs : List ℕ). regions_at apart cs k) (names ns)))
 
-    pub grown_told : map (map f) (grown_regions near places k) ≡ grown_regions t.apart ns k
+    pub grown_told : map (map f) (grown_regions near places k) ≡ grown_regions apart ns k
     grown_told =
         let rs = regions_at near places k in
-        sym (grown_named f near t.apart places k one same distinct (length rs) rs covered (λ i. (parted i).within))
-        ∙ (ap (λ (n : ℕ). grown_within t.apart (map f places) k n (map (map f) rs)) (sym (length-map rs (map f)))
-        ∙ (ap (grown t.apart (map f places) k) regions_told ∙ ap (λ (cs : List ℕ). grown t.apart cs k (regions_at t.apart ns k)) (names ns)))
+        sym (grown_named f near apart places k one same distinct (length rs) rs covered (λ i. (parted i).within))
+        ∙ (ap (λ (n : ℕ). grown_within apart (map f places) k n (map (map f) rs)) (sym (length-map rs (map f)))
+        ∙ (ap (grown apart (map f places) k) regions_told ∙ ap (λ (cs : List ℕ). grown apart cs k (regions_at apart ns k)) (names ns)))
 
     abbrev test : List ℕ
     test = test_of k (grown_regions near places k)
@@ -213,7 +187,7 @@ module _ (g : Graph) (sort : SortId) (terms : List TermId) (rows : List (List Bo
         let large = large_keeps (IsPart places) k (grown_regions near places k) (no_part places) grown_parted in
         record { within = λ c h. large.within c (in_take (k + 1) (first_large k (grown_regions near places k)) c h); up = up_take (k + 1) (first_large k (grown_regions near places k)) large.up }
 
-    test_told : test_of k (grown_regions t.apart ns k) ≡ map f test
+    test_told : test_of k (grown_regions apart ns k) ≡ map f test
     test_told =
         ap (test_of k) (sym grown_told)
         ∙ (ap (take (k + 1)) (large_named f k (grown_regions near places k)) ∙ take-map f (k + 1) (first_large k (grown_regions near places k)))
@@ -226,36 +200,27 @@ module _ (g : Graph) (sort : SortId) (terms : List TermId) (rows : List (List Bo
         let large = large_is k (grown_regions near places k) (grown_large near places k distinct (omega (arith, more, long)) (length (regions_at near places k)) (regions_at near places k) (omega arith) covered) in
         length-take-le (k + 1) (first_large k (grown_regions near places k)) (omega (arith, large))
 
-    strong_told : (s : Strong) → IsFoundIn near ns k (grown_regions near places k) s → IsStrong t.apart ns k (grown_regions t.apart ns k) s
+    pub strong_told : (s : Strong) → IsFoundIn near ns k (grown_regions near places k) s → IsStrong apart ns k (grown_regions apart ns k) s
     strong_told Strong.Fits h = h
     strong_told (Strong.Split c d) h =
         let p = h.1.0 in
         let is = pair_is near test test_part.up p h.1.1 in
-        let split : IsSplit t.apart (map f test) (f p.0) (f p.1) = record {
+        let split : IsSplit apart (map f test) (f p.0) (f p.1) = record {
           first = map_in f test p.0 is.first;
           second = map_in f test p.1 is.second;
           older = up_at ns ascend p.0 p.1 is.older (below p.1 (test_part.within p.1 is.second));
           open_ = same p.0 p.1 (test_part.within p.0 is.first) (test_part.within p.1 is.second) ∙ is.open_;
         } in (
           h.0,
-          subst (λ (x : ℕ). IsSplit t.apart (test_of k (grown_regions t.apart ns k)) x d.0) (sym h.1.2)
-              (subst (λ (y : ℕ). IsSplit t.apart (test_of k (grown_regions t.apart ns k)) (f p.0) y) (sym h.1.3)
-              (subst (λ (cs : List ℕ). IsSplit t.apart cs (f p.0) (f p.1)) (sym test_told) split)),
+          subst (λ (x : ℕ). IsSplit apart (test_of k (grown_regions apart ns k)) x d.0) (sym h.1.2)
+              (subst (λ (y : ℕ). IsSplit apart (test_of k (grown_regions apart ns k)) (f p.0) y) (sym h.1.3)
+              (subst (λ (cs : List ℕ). IsSplit apart cs (f p.0) (f p.1)) (sym test_told) split)),
         )
     strong_told (Strong.Clique ts) h = (
       h.0,
       record {
         whole = h.2 ∙ sym test_told;
         size = ap length h.2 ∙ (length-map test f ∙ test_long h.0);
-        apart_all = ap (are_apart t.apart) h.2 ∙ are_apart_named f near t.apart test (λ c d hc hd. same c d (test_part.within c hc) (test_part.within d hd)) (all_apart near test h.1);
+        apart_all = ap (are_apart apart) h.2 ∙ are_apart_named f near apart test (λ c d hc hd. same c d (test_part.within c hc) (test_part.within d hd)) (all_apart near test h.1);
       },
     )
-
-  pub are_regions : AreRegionsOf g sort k (map (map f) (regions_at near places k))
-  are_regions t cs tests oldest = regions_told t tests ∙ ap (λ (xs : List ℕ). regions_at t.apart xs k) (oldest_same g sort terms cs old oldest)
-
-  pub are_grown : AreGrownOf g sort k (map (map f) (grown_regions near places k))
-  are_grown t cs tests oldest = grown_told t tests ∙ ap (λ (xs : List ℕ). grown_regions t.apart xs k) (oldest_same g sort terms cs old oldest)
-
-  pub is_strong : (s : Strong) → IsFoundIn near ns k (grown_regions near places k) s → IsStrongOf g sort k s
-  is_strong s h t cs tests oldest = subst (λ (xs : List ℕ). IsStrong t.apart xs k (grown_regions t.apart xs k) s) (oldest_same g sort terms cs old oldest) (strong_told t tests s h)

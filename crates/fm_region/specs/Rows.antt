@@ -1,9 +1,8 @@
 -- Classes by place: the classes of a sort numbered from 0 in order of age, and a table of which are apart.
-use Rattle.std.specs.Prelude.{◌≡◌, ◌↔◌, ◌<◌, ◌==◌, ◌&&◌, ◌||◌, ℕ, Bool, true, false, List, [], length, Option, None, Some}
-use Rattle.std.specs.List.{slice_index_or}
-use Rattle.fm_base.specs.declared.ids.TermId.{TermId}
-use Rattle.fm_bank.specs.Closure.{Shape, object}
-use Rattle.fm_cong.specs.Held.{AreEqual, AreUnequal, Held, IsRegistered}
+use Rattle.std.specs.Prelude.{◌≡◌, ◌↔◌, ◌<◌, ◌==◌, ◌&&◌, ◌||◌, ℕ, Bool, true, false, List, [], ◌∷◌, length, Option, None, Some}
+use Rattle.std.specs.List.{list_any, slice_index_or}
+use Rattle.fm_bank.specs.Closure.{object}
+use Rattle.fm_cong.specs.Held.{AreEqual, AreUnequal, Held}
 
 -- whether two classes are apart, by a table with a row for each class
 abbrev pub apart_in : List (List Bool) → ℕ → ℕ → Bool
@@ -12,18 +11,6 @@ apart_in rows c d = slice_index_or (slice_index_or rows c []) d false
 -- the number of the term at a place
 abbrev pub number_at : List ℕ → ℕ → ℕ
 number_at terms c = slice_index_or terms c 0
-
--- a row says of each place whether its term and this one are unequal
-abbrev pub IsRow : Held → List ℕ → ℕ → List Bool → Type 0
-IsRow g terms t row = (d : ℕ) → d < length terms → (slice_index_or row d false ≡ true) ↔ AreUnequal g t (number_at terms d)
-
--- a row for each place
-abbrev pub AreRows : Held → List ℕ → List (List Bool) → Type 0
-AreRows g terms rows = (c : ℕ) → c < length terms → IsRow g terms (number_at terms c) (slice_index_or rows c [])
-
--- the sides of a pair are registered
-abbrev pub AreSidesRegistered : List Shape → TermId × TermId → Type 0
-AreSidesRegistered shapes p = IsRegistered shapes p.0.0 × IsRegistered shapes p.1.0
 
 -- no two of these terms are equal
 abbrev pub AreSeparate : Held → List ℕ → Type 0
@@ -44,14 +31,35 @@ pub record IsGrid (count : ℕ) (rows : List (List Bool)) : Type 0 where
 abbrev pub Marks : ℕ → List (List Bool) → List (List Bool) → ℕ → ℕ → Type 0
 Marks count old new c d = (x y : ℕ) → x < count → y < count → apart_in new x y ≡ (apart_in old x y || (x == c && y == d))
 
-abbrev pub are_both : Option ℕ → Option ℕ → ℕ → ℕ → Bool
-are_both None b x y = false
-are_both (Some c) None x y = false
-are_both (Some c) (Some d) x y = (x == c && y == d) || (x == d && y == c)
+-- two places are those of a pair, in either order
+abbrev pub are_both : ℕ × ℕ → ℕ → ℕ → Bool
+are_both p x y = (x == p.0 && y == p.1) || (x == p.1 && y == p.0)
 
--- the two entries of a pair are set, where it has two places
-abbrev pub MarksBoth : ℕ → List (List Bool) → List (List Bool) → Option ℕ → Option ℕ → Type 0
-MarksBoth count old new a b = (x y : ℕ) → x < count → y < count → apart_in new x y ≡ (apart_in old x y || are_both a b x y)
+-- the two entries of a pair are set, and the others stay
+abbrev pub MarksBoth : ℕ → List (List Bool) → List (List Bool) → ℕ → ℕ → Type 0
+MarksBoth count old new c d = (x y : ℕ) → x < count → y < count → apart_in new x y ≡ (apart_in old x y || are_both (c, d) x y)
+
+-- a pair stands between two places
+abbrev pub between : List (ℕ × ℕ) → ℕ → ℕ → Bool
+between pairs x y = list_any (λ (p : ℕ × ℕ). are_both p x y) pairs
+
+-- a pair of places, where both are
+abbrev pub both_places : Option ℕ → Option ℕ → List (ℕ × ℕ)
+both_places None b = []
+both_places (Some c) None = []
+both_places (Some c) (Some d) = (c, d) ∷ []
+
+abbrev pub IsPairBelow : ℕ → ℕ × ℕ → Type 0
+IsPairBelow count p = (p.0 < count) × (p.1 < count)
+
+-- a pair stands between the places of two terms exactly where these are unequal
+abbrev pub ArePlaced : Held → List ℕ → List (ℕ × ℕ) → Type 0
+ArePlaced g terms pairs =
+    (c d : ℕ) → c < length terms → d < length terms → (between pairs c d ≡ true) ↔ AreUnequal g (number_at terms c) (number_at terms d)
+
+-- the entries that are set are those of the pairs
+abbrev pub AreRowsBy : ℕ → List (ℕ × ℕ) → List (List Bool) → Type 0
+AreRowsBy count pairs rows = (x y : ℕ) → x < count → y < count → apart_in rows x y ≡ between pairs x y
 
 -- a row in which nothing is set
 pub record IsEmptyRow (count : ℕ) (row : List Bool) : Type 0 where

@@ -13,6 +13,7 @@ mod parts;
 mod plain;
 mod regions;
 mod rows;
+mod source;
 mod strong;
 #[cfg(test)]
 mod tests;

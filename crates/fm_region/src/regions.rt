@@ -1,5 +1,6 @@
-ghost use Rattle.std.specs.Prelude.{◌≡◌, ◌↔◌, ◌==◌, ◌<◌, ◌≤◌, ◌+◌, ◌^◌, ◌++◌, ◌∷◌, [], ℕ, List, length, map, position, take, slice_get, Some, Option, IfOk, OnOk, OnErr, IsTrue};
-ghost use Rattle.std.specs.List.{range_with_len};
+ghost use Rattle.std.specs.Prelude.{◌≡◌, ◌↔◌, ◌==◌, ◌<◌, ◌≤◌, ◌+◌, ◌^◌, ◌++◌, ◌∷◌, [], ℕ, List, length, map, nat_lt, position, take, slice_get, if◌then◌else◌, None, Some, Option, IfOk, OnOk, OnErr, IsTrue};
+ghost use Rattle.std.specs.List.{All, range_with_len};
+ghost use Rattle.fm_cells.specs.Ascending.{IsAscending};
 ghost use Rattle.fm_bank.specs.Terms.{numbers};
 ghost use Rattle.fm_cong.specs.Held.{IsSettled};
 ghost use Rattle.fm_region.specs.Levels.{last_of, newest};
@@ -7,12 +8,14 @@ ghost use Rattle.fm_region.specs.Held.{AreGrownOf, AreRegionsOf, nothing_followe
 ghost use Rattle.fm_region.specs.Answers.{IsStrongOf, weak_of};
 ghost use Rattle.fm_region.specs.Parts.{AreDegrees, AreKept, IsTable, regions_of};
 ghost use Rattle.fm_bank.specs.Regions.{grown_regions, is_large, regions_at};
-ghost use Rattle.fm_region.specs.Rows.{apart_in, number_at};
+ghost use Rattle.fm_region.specs.Rows.{IsPairBelow, apart_in, number_at};
+ghost use Rattle.fm_region.specs.Sources.{AreGrownFrom, AreMadeFrom, parts};
 
 use crate::closing::close;
 use crate::growing::grow;
 use crate::parts::{Part, alone, degrees};
 use crate::rows::rows;
+use crate::source::{Source, is_last, source_of};
 use crate::strong::{Strong, answer, term_at};
 use fm_base::{Memory, SortId, TermId, Undo};
 use fm_cong::Egraph;
@@ -29,18 +32,19 @@ pub struct Regions {
     // regions that were, the present ones last; below a level those that stood as it was opened
     made: Vec<Items<Items<usize>>>,
     opened: Vec<usize>,
+    // what the present ones were made from, where that is known
+    source: Option<Source>,
 }
 
 impl Model for Regions {
     ghost use Rattle.fm_region.specs.Held.{Held, held_in};
-    ghost use Rattle.fm_region.specs.Levels.{AreOpened};
-    ghost use Rattle.std.specs.Prelude.{length};
+    ghost use Rattle.fm_region.specs.Sources.{IsHeld};
 
     ghost Value = { Held };
 
     ghost view = { λ r. held_in r.sort r.made.items r.opened.items };
 
-    ghost invariant = { λ r. AreOpened (length r.made.items) r.opened.items };
+    ghost invariant = { λ r. IsHeld r.made.items r.opened.items r.source };
 }
 
 /// Whether some region has more than k classes: the first that has, numbered from 0.
@@ -122,6 +126,82 @@ fn named_regions(
     Ok(named)
 }
 
+// Each class by itself.
+fn single_regions(alloc: Global, terms: &[TermId]) -> Result<Items<Items<usize>>, Memory>
+    ensures { IfOk result (λ r. r ≡ map (λ c. c ∷ []) (numbers terms.now)) }
+{
+    let mut regions = Items::new(alloc);
+    for term in terms {
+        let mut region = Items::new(alloc);
+        region.push(term.0)?;
+        regions.push(region)?;
+    }
+    Ok(regions)
+}
+
+// The regions of classes by the pairs of places that are apart.
+fn paired_regions(alloc: Global, source: &Source) -> Result<Items<Items<usize>>, Memory>
+    requires ascending { IsAscending source.now.terms.items }
+    requires below { All (IsPairBelow (length source.now.terms.items)) source.now.pairs.items }
+    ensures { IfOk result (AreMadeFrom (parts source.now)) }
+{
+    let terms = source.terms.as_slice();
+    let table = rows(alloc, terms.len(), source.pairs.as_slice())?;
+    let near = table.as_slice();
+    let list = places(alloc, terms.len())?;
+    let classes = list.as_slice();
+    let row_sums = degrees(alloc, near, classes)?;
+    let k = source.k as usize;
+    let parts = closed_parts(alloc, near, classes, row_sums.as_slice(), k)?;
+    let regions = named_regions(alloc, terms, parts.as_slice())?;
+    Ok(regions)
+}
+
+// The regions of classes. Where there are at most k, each is by itself, whichever are apart.
+fn made_regions(alloc: Global, source: &Source) -> Result<Items<Items<usize>>, Memory>
+    requires ascending { IsAscending source.now.terms.items }
+    requires below { All (IsPairBelow (length source.now.terms.items)) source.now.pairs.items }
+    ensures { IfOk result (AreMadeFrom (parts source.now)) }
+{
+    if source.terms.len() as u64 <= source.k {
+        let regions = single_regions(alloc, source.terms.as_slice())?;
+        return Ok(regions);
+    }
+    paired_regions(alloc, source)
+}
+
+// The grown regions of classes by the pairs of places that are apart, and what they answer.
+fn paired_grown(alloc: Global, source: &Source) -> Result<(Items<Items<usize>>, Strong), Memory>
+    requires ascending { IsAscending source.now.terms.items }
+    requires below { All (IsPairBelow (length source.now.terms.items)) source.now.pairs.items }
+    ensures { IfOk result (λ r. AreGrownFrom (parts source.now) r.0 r.1) }
+{
+    let terms = source.terms.as_slice();
+    let table = rows(alloc, terms.len(), source.pairs.as_slice())?;
+    let near = table.as_slice();
+    let list = places(alloc, terms.len())?;
+    let classes = list.as_slice();
+    let row_sums = degrees(alloc, near, classes)?;
+    let k = source.k as usize;
+    let parts = grown_parts(alloc, near, classes, row_sums.as_slice(), k)?;
+    let found = answer(alloc, near, terms, k, parts.as_slice())?;
+    let regions = named_regions(alloc, terms, parts.as_slice())?;
+    Ok((regions, found))
+}
+
+// The same. Where there are at most k classes, each is by itself and the sort fits, whichever are apart.
+fn grown(alloc: Global, source: &Source) -> Result<(Items<Items<usize>>, Strong), Memory>
+    requires ascending { IsAscending source.now.terms.items }
+    requires below { All (IsPairBelow (length source.now.terms.items)) source.now.pairs.items }
+    ensures { IfOk result (λ r. AreGrownFrom (parts source.now) r.0 r.1) }
+{
+    if source.terms.len() as u64 <= source.k {
+        let regions = single_regions(alloc, source.terms.as_slice())?;
+        return Ok((regions, Strong::Fits));
+    }
+    paired_grown(alloc, source)
+}
+
 fn newest_level(opened: &[usize]) -> usize
     ensures { result ≡ newest opened.now }
 {
@@ -144,6 +224,15 @@ fn put(
     made.truncate(keep);
     made.push_reserved(regions);
     Ok(())
+}
+
+// Where regions go, what the last were made from isn't known.
+fn forget_if(source: &mut Option<Source>, at: usize, count: usize)
+    ensures { source.new ≡ (if nat_lt at count then None else source.old) }
+{
+    if at < count {
+        *source = None;
+    }
 }
 
 fn first_large_place(k: u64, regions: &[Items<usize>]) -> Option<usize>
@@ -172,11 +261,12 @@ impl Regions {
             sort,
             made: Vec::new(alloc),
             opened: Vec::new(alloc),
+            source: None,
         }
     }
 
-    /// Afterwards the regions are those at k of the sort's classes in a settled graph. They are made anew: what they were
-    /// doesn't count.
+    /// Afterwards the regions are those at k of the sort's classes in a settled graph. Where the last ones were made of the
+    /// same classes with the same pairs apart, at this k, they stay; else they are made anew.
     pub fn follow(&mut self, graph: &Egraph, k: u64) -> Result<(), Memory>
         requires settled { IsSettled graph.now }
         ensures regions { OnOk result (AreRegionsOf graph.now self.old.sort k self.new.regions) }
@@ -184,16 +274,15 @@ impl Regions {
         ensures sort { self.new.sort ≡ self.old.sort }
         ensures err { OnErr result (self.new ≡ self.old) }
     {
-        let terms = graph.classes(self.sort);
-        let table = rows(self.alloc, graph, terms)?;
-        let near = table.as_slice();
-        let list = places(self.alloc, terms.len())?;
-        let classes = list.as_slice();
-        let row_sums = degrees(self.alloc, near, classes)?;
-        let parts = closed_parts(self.alloc, near, classes, row_sums.as_slice(), k as usize)?;
-        let named = named_regions(self.alloc, terms, parts.as_slice())?;
+        let terms = graph.classes(self.sort)?;
+        let source = source_of(self.alloc, graph, self.sort, k, terms)?;
+        if is_last(&self.source, &source) {
+            return Ok(());
+        }
+        let regions = made_regions(self.alloc, &source)?;
         let keep = newest_level(self.opened.as_slice());
-        put(&mut self.made, keep, named)?;
+        put(&mut self.made, keep, regions)?;
+        self.source = Some(source);
         Ok(())
     }
 
@@ -214,29 +303,22 @@ impl Regions {
         }
     }
 
-    /// To be asked where the last `follow` had this k, and neither an undo nor a change of the graph came since. Afterwards
-    /// the regions are the grown ones, and the test is the first k + 1 classes of the first region of more than k. The next
-    /// `follow` forgets them.
+    /// Whether the sort has at most k classes, and else a test. Afterwards the regions are the grown ones, and the test is the
+    /// first k + 1 classes of the first region of more than k. The next `follow` forgets them.
     pub fn strong(&mut self, graph: &Egraph, k: u64) -> Result<Strong, Memory>
         requires settled { IsSettled graph.now }
-        requires followed { AreRegionsOf graph.now self.old.sort k self.old.regions }
         ensures regions { OnOk result (AreGrownOf graph.now self.old.sort k self.new.regions) }
         ensures answer { IfOk result (IsStrongOf graph.now self.old.sort k) }
         ensures levels { self.new.levels ≡ self.old.levels }
         ensures sort { self.new.sort ≡ self.old.sort }
         ensures err { OnErr result (self.new ≡ self.old) }
     {
-        let terms = graph.classes(self.sort);
-        let table = rows(self.alloc, graph, terms)?;
-        let near = table.as_slice();
-        let list = places(self.alloc, terms.len())?;
-        let classes = list.as_slice();
-        let row_sums = degrees(self.alloc, near, classes)?;
-        let parts = grown_parts(self.alloc, near, classes, row_sums.as_slice(), k as usize)?;
-        let found = answer(self.alloc, near, terms, k as usize, parts.as_slice())?;
-        let named = named_regions(self.alloc, terms, parts.as_slice())?;
+        let terms = graph.classes(self.sort)?;
+        let source = source_of(self.alloc, graph, self.sort, k, terms)?;
+        let (regions, found) = grown(self.alloc, &source)?;
         let keep = newest_level(self.opened.as_slice());
-        put(&mut self.made, keep, named)?;
+        put(&mut self.made, keep, regions)?;
+        self.source = None;
         Ok(found)
     }
 }
@@ -267,6 +349,7 @@ impl Undo for Regions {
         ensures sort { self.new.sort ≡ self.old.sort }
     {
         let at = self.opened[level];
+        forget_if(&mut self.source, at, self.made.len());
         self.made.truncate(at);
         self.opened.truncate(level);
     }

@@ -1,57 +1,64 @@
-ghost use Rattle.std.specs.Prelude.{◌≡◌, ◌<◌, ◌≤◌, ℕ, [], true, length, map, take, slice_set, false, IfOk, IfSome, IsTrue, OnOk};
-ghost use Rattle.std.specs.List.{All, slice_index_or};
+ghost use Rattle.std.specs.Prelude.{◌≡◌, ◌<◌, ◌++◌, length, IfOk, OnOk};
+ghost use Rattle.std.specs.List.{All};
 ghost use Rattle.fm_bank.specs.Terms.{numbers};
 ghost use Rattle.fm_cong.specs.Held.{IsRegistered, IsSettled};
-ghost use Rattle.fm_cong.specs.Facts.{numbers_of_pair, unequal_of};
-ghost use Rattle.fm_region.specs.Rows.{AreEmptyRows, AreRows, AreSeparate, AreSidesRegistered, IsEmptyRow, IsGrid, IsPlaceOf, IsRow, Marks, MarksBoth, apart_in};
+ghost use Rattle.fm_cong.specs.Types.{AreOldest};
+ghost use Rattle.fm_region.specs.Rows.{AreEmptyRows, ArePlaced, AreRowsBy, IsEmptyRow, IsGrid, IsPairBelow, IsPlaceOf, Marks, MarksBoth, both_places};
 
-use fm_base::{Memory, TermId};
+use fm_base::{Memory, SortId, TermId};
+use fm_cells::find;
 use fm_cong::Egraph;
 use sqlite_items::Items;
 use std::alloc::Global;
 
-// Where a term would stand among these, by its number.
-fn guess(terms: &[TermId], term: TermId) -> usize {
-    let mut low = 0;
-    let mut high = terms.len();
-    while low < high {
-        let middle = low + (high - low) / 2;
-        if terms[middle].0 < term.0 {
-            low = middle + 1;
-        } else {
-            high = middle;
-        }
-    }
-    low
-}
-
-fn search(graph: &Egraph, terms: &[TermId], term: TermId) -> Option<usize>
+// The place of the class of a term among those of a sort; None where the term is of another sort.
+fn place_of(graph: &Egraph, _sort: SortId, terms: &[TermId], term: TermId) -> Option<usize>
     requires settled { IsSettled graph.now }
+    requires oldest { AreOldest graph.now _sort terms.now }
     requires term { IsRegistered graph.now.shapes term.0 }
-    requires terms { All (λ t. IsRegistered graph.now.shapes t.0) terms.now }
     ensures { IsPlaceOf graph.now (numbers terms.now) term.0 result }
 {
-    for place in 0..terms.len() {
-        if graph.same(terms[place], term) {
-            return Some(place);
-        }
-    }
-    None
+    let oldest = graph.oldest_of(term);
+    find(terms, oldest.0)
 }
 
-// The place of the class of a term, where it is one of these classes. A term that is the oldest of its class is found at
-// once, and another by a search.
-fn place_of(graph: &Egraph, terms: &[TermId], term: TermId) -> Option<usize>
-    requires settled { IsSettled graph.now }
-    requires term { IsRegistered graph.now.shapes term.0 }
-    requires terms { All (λ t. IsRegistered graph.now.shapes t.0) terms.now }
-    ensures { IsPlaceOf graph.now (numbers terms.now) term.0 result }
+// Puts a pair of places behind the others, where both are.
+fn put_pair(
+    pairs: &mut Vec<(usize, usize)>,
+    a: Option<usize>,
+    b: Option<usize>,
+) -> Result<(), Memory>
+    ensures { OnOk result (pairs.new.items ≡ pairs.old.items ++ both_places a b) }
 {
-    let at = guess(terms, term);
-    if at < terms.len() && graph.same(terms[at], term) {
-        return Some(at);
+    match (a, b) {
+        (Some(c), Some(d)) => {
+            pairs.push((c, d))?;
+        }
+        _ => {}
     }
-    search(graph, terms, term)
+    Ok(())
+}
+
+// The places of the classes that are apart, a pair for each pair of unequal terms of the sort.
+pub(crate) fn place_pairs(
+    alloc: Global,
+    graph: &Egraph,
+    sort: SortId,
+    terms: &[TermId],
+) -> Result<Vec<(usize, usize)>, Memory>
+    requires settled { IsSettled graph.now }
+    requires oldest { AreOldest graph.now sort terms.now }
+    ensures placed { IfOk result (λ v. ArePlaced graph.now (numbers terms.now) v.items) }
+    ensures below { IfOk result (λ v. All (IsPairBelow (length terms.now)) v.items) }
+{
+    let mut placed = Vec::new(alloc);
+    let pairs = graph.unequal_pairs();
+    for pair in pairs {
+        let a = place_of(graph, sort, terms, pair.0);
+        let b = place_of(graph, sort, terms, pair.1);
+        put_pair(&mut placed, a, b)?;
+    }
+    Ok(placed)
 }
 
 // A row in which nothing is marked.
@@ -85,104 +92,30 @@ fn mark(rows: &mut Vec<Items<bool>>, count: usize, c: usize, d: usize)
     rows[c].set(d, true);
 }
 
-// Marks two classes as apart, where both are places.
-fn mark_both(rows: &mut Vec<Items<bool>>, count: usize, a: Option<usize>, b: Option<usize>)
+// Marks two classes as apart.
+fn mark_both(rows: &mut Vec<Items<bool>>, count: usize, c: usize, d: usize)
     requires grid { IsGrid count rows.old.items }
-    requires a { IfSome a (λ c. c < count) }
-    requires b { IfSome b (λ d. d < count) }
+    requires c { c < count }
+    requires d { d < count }
     ensures grid { IsGrid count rows.new.items }
-    ensures marked { MarksBoth count rows.old.items rows.new.items a b }
+    ensures marked { MarksBoth count rows.old.items rows.new.items c d }
 {
-    match (a, b) {
-        (Some(c), Some(d)) => {
-            mark(rows, count, c, d);
-            mark(rows, count, d, c);
-        }
-        _ => {}
-    }
+    mark(rows, count, c, d);
+    mark(rows, count, d, c);
 }
 
-// Which of the terms a term is apart from.
-fn row(alloc: Global, graph: &Egraph, term: TermId, terms: &[TermId]) -> Result<Items<bool>, Memory>
-    requires settled { IsSettled graph.now }
-    requires term { IsRegistered graph.now.shapes term.0 }
-    requires terms { All (λ t. IsRegistered graph.now.shapes t.0) terms.now }
-    ensures { IfOk result (IsRow graph.now (numbers terms.now) term.0) }
-{
-    let mut row = Items::new(alloc);
-    for other in terms {
-        row.push(graph.apart(term, *other))?;
-    }
-    Ok(row)
-}
-
-// Which terms are apart, a row for each, by asking of each two.
-fn rows_by_asking(
-    alloc: Global,
-    graph: &Egraph,
-    terms: &[TermId],
-) -> Result<Vec<Items<bool>>, Memory>
-    requires settled { IsSettled graph.now }
-    requires terms { All (λ t. IsRegistered graph.now.shapes t.0) terms.now }
-    ensures { IfOk result (λ v. AreRows graph.now (numbers terms.now) v.items) }
-{
-    let mut rows = Vec::new(alloc);
-    for term in terms {
-        rows.push(row(alloc, graph, *term, terms)?)?;
-    }
-    Ok(rows)
-}
-
-// Whether the sides of all pairs are registered; those of an e-graph are.
-fn are_sides_registered(graph: &Egraph, pairs: &[(TermId, TermId)]) -> bool
-    ensures { IsTrue result → All (AreSidesRegistered graph.now.shapes) pairs.now }
-{
-    for pair in pairs {
-        if !graph.is_registered(pair.0) || !graph.is_registered(pair.1) {
-            return false;
-        }
-    }
-    true
-}
-
-// Which terms are apart, a row for each, by the pairs read.
-fn rows_by_pairs(
-    alloc: Global,
-    graph: &Egraph,
-    terms: &[TermId],
-    pairs: &[(TermId, TermId)],
-) -> Result<Vec<Items<bool>>, Memory>
-    requires settled { IsSettled graph.now }
-    requires terms { All (λ t. IsRegistered graph.now.shapes t.0) terms.now }
-    requires separate { AreSeparate graph.now (numbers terms.now) }
-    requires sides { All (AreSidesRegistered graph.now.shapes) pairs.now }
-    requires pairs { map numbers_of_pair pairs.now ≡ unequal_of graph.now.facts }
-    ensures { IfOk result (λ v. AreRows graph.now (numbers terms.now) v.items) }
-{
-    let mut rows = empty_rows(alloc, terms.len())?;
-    for pair in pairs {
-        let a = place_of(graph, terms, pair.0);
-        let b = place_of(graph, terms, pair.1);
-        mark_both(&mut rows, terms.len(), a, b);
-    }
-    Ok(rows)
-}
-
-// Which terms are apart, a row for each.
+// Which of so many classes are apart, a row for each.
 pub(crate) fn rows(
     alloc: Global,
-    graph: &Egraph,
-    terms: &[TermId],
+    count: usize,
+    pairs: &[(usize, usize)],
 ) -> Result<Vec<Items<bool>>, Memory>
-    requires settled { IsSettled graph.now }
-    requires terms { All (λ t. IsRegistered graph.now.shapes t.0) terms.now }
-    requires separate { AreSeparate graph.now (numbers terms.now) }
-    ensures { IfOk result (λ v. AreRows graph.now (numbers terms.now) v.items) }
+    requires { All (IsPairBelow count) pairs.now }
+    ensures { IfOk result (λ v. AreRowsBy count pairs.now v.items) }
 {
-    let pairs = graph.unequal_pairs();
-    if are_sides_registered(graph, pairs) {
-        rows_by_pairs(alloc, graph, terms, pairs)
-    } else {
-        rows_by_asking(alloc, graph, terms)
+    let mut rows = empty_rows(alloc, count)?;
+    for pair in pairs {
+        mark_both(&mut rows, count, pair.0, pair.1);
     }
+    Ok(rows)
 }

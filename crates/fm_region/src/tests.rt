@@ -15,7 +15,7 @@ const CASES: [(usize, &[u8], &[u8]); 3] = [
     (
         3,
         b"01",
-        b"f1  w10 m   f2  w2. w00 s202w20 u0  w10 w2. s1C2",
+        b"f1  w10 m   f2  w2. w00 s202w20 f2  w2. w00 u0  w10 w2. s1C2",
     ),
     (5, b"01020312130414233424", b"s4C5s5F."),
     (2, b"", b"s101s2F."),
@@ -124,6 +124,75 @@ fn run(
     let mut graph = graph(rt, alloc, &bank)?;
     read_pairs(rt, &mut graph, &mut bank, pairs)?;
     run_on(rt, alloc, &graph, steps)
+}
+
+// Reads that two constants are unequal (r) or equal (e), opens a level of the graph (M) or goes back to it (U); else as above.
+// So regions are followed through changes of the graph: a pair more, levels with a pair and with an equality, and the same
+// again.
+const CHANGES: [&[u8]; 2] = [
+    b"f1  w1. r01 f1  w10 f1  w10 f2  w2. f1  w10 m   M   r02 f1  w20 f1  w20 u0  U0  w2. f1  w10 w2. ",
+    b"m   M   e12 f1  w10 w2. s1C2f1  w10 f2  w1. u0  U0  w10 f1  w10 f2  w1. s202w20 f2  w1. r02 r12 f2  w20 s2C3",
+];
+
+fn graph_back(rt: &impl Abort, graph: &mut Egraph, level: usize) -> Result<bool, Memory> {
+    let top = graph.mark()?;
+    assert!(rt; level <= top);
+    graph.undo_to(level);
+    Ok(true)
+}
+
+fn holds_after(
+    rt: &impl Abort,
+    regions: &mut Regions,
+    graph: &mut Egraph,
+    bank: &mut Bank,
+    step: &[u8],
+) -> Result<bool, Memory> {
+    match step {
+        [kind @ (b'r' | b'e'), a, b, ..] => {
+            read(rt, graph, bank, (digit(*a), digit(*b)), *kind == b'e')?;
+            Ok(true)
+        }
+        [b'M', ..] => {
+            graph.mark()?;
+            Ok(true)
+        }
+        [b'U', level, ..] => graph_back(rt, graph, digit(*level)),
+        _ => holds(rt, regions, graph, step),
+    }
+}
+
+fn all_hold_after(
+    rt: &impl Abort,
+    regions: &mut Regions,
+    graph: &mut Egraph,
+    bank: &mut Bank,
+    steps: &[u8],
+) -> Result<bool, Memory> {
+    for step in steps.chunks(4) {
+        if !holds_after(rt, regions, graph, bank, step)? {
+            return Ok(false);
+        }
+    }
+    Ok(true)
+}
+
+fn follow_changes(rt: &impl Abort, alloc: Global, bank: &mut Bank) -> Result<bool, Memory> {
+    let mut graph = graph(rt, alloc, bank)?;
+    let mut regions = Regions::new(alloc, SortId(0));
+    for steps in CHANGES {
+        if !all_hold_after(rt, &mut regions, &mut graph, bank, steps)? {
+            return Ok(false);
+        }
+    }
+    Ok(true)
+}
+
+#[test]
+fn follows_changes(rt: HostRuntime) -> Result<(), Fail> {
+    let mut bank = bank(&rt, rt.alloc(), 3)?;
+    assert!(rt; follow_changes(&rt, rt.alloc(), &mut bank)?);
+    Ok(())
 }
 
 #[test]

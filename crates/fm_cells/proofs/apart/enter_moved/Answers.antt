@@ -1,8 +1,7 @@
 use Rattle.std.proofs.Common.{◌||◌, length, refl, arith}
 use Rattle.std.proofs.lemmas.Option.{slice_get_read}
 use Rattle.fm_cells.specs.Rings.{own_or}
-use Rattle.fm_cells.proofs.Following.{behind, range_more}
-use Rattle.fm_cells.proofs.Keying.{IsEnteredMove, longer_more, move_entered, moves_later, sound_more}
+use Rattle.fm_cells.proofs.Keying.{IsEnteredMove, behind, longer_more, move_entered, moves_later, range_more, sound_more}
 use Rattle.fm_cells.proofs.apart.enter_moved.Goals as goal
 
 pub loop-at-preserved : goal.loop-at-preserved

@@ -2,15 +2,13 @@ use Rattle.std.proofs.Common.{Option, Some, [], ap, arith, map, refl, subst, sym
 use Rattle.std.specs.Prelude.{slice_get}
 use Rattle.fm_bank.specs.declared.atom.Atom.{Atom}
 use Rattle.fm_cells.specs.Apart.{ArePairsWithin}
-use Rattle.fm_cells.proofs.Following.{kinds_same}
 use Rattle.fm_cong.specs.Facts.{numbers_of_pair, unequal_of}
 use Rattle.fm_cong.specs.Graphs.{Cells}
 use Rattle.fm_cong.specs.States.{count_of}
 use Rattle.fm_cong.specs.declared.egraph.Egraph.TheInside.{Inside}
 use Rattle.fm_cong.proofs.Keeping.{atom_in, atoms_read, atoms_same, faithful_with, read_held, uses_lent}
-use Rattle.fm_cong.proofs.Tracing.{grown_same, indexed_after, indexed_same, pairs_within, tracked_on}
-use Rattle.fm_cong.proofs.Tracking.{from_within, nodes_steady, right_after}
-use Rattle.fm_cong.proofs.Whole.{insides_of, joins_in, nodes_of, read_more, roots_err, sorts_same, unequal_merged, whole_room}
+use Rattle.fm_cong.proofs.Tracing.{from_within, grown_same, indexed_after, indexed_same, pairs_within, tracked_on}
+use Rattle.fm_cong.proofs.Whole.{insides_of, joins_in, read_more, classes_err, unequal_merged, whole_room}
 use Rattle.fm_cong.proofs.egraph.Egraph.merge.Goals as goal
 
 pub read_literal-requires-clause-uses : goal.read_literal-requires-clause-uses
@@ -28,10 +26,10 @@ invariant_of-self c =
     let atoms = atoms_same (count_of g.state) (count_of c.read_literal.new.state) g.state.facts.items c.read_literal.new.state.facts.items e.nodes facts c.self.invariant.sound.atoms in
     let sound = faithful_with c.self.inside c.self.invariant.sound c.read_literal.new.state c.as_slice-members.result.now c.as_slice-members.ensures.value e.steady e.quiet (omega (arith, e.entered, c.self.invariant.sound.entered)) e.kept e.nodes atoms in
     let t = c.read_literal.new.state in
-    let same = roots_err g.state t e.err in
-    let tracked = tracked_on g.state t g.apart g.apart g.marks.items g.cuts.items (insides_of g w) e.classes (grown_same g.state.facts.items t.facts.items facts) (λ class x k. k) (indexed_same g.state t g.apart same.class w.tracked.indexed) w.tracked in
-    let h : Inside = record { alloc = g.alloc; members = g.members; types = g.types; flags = g.flags; uses = g.uses; state = c.read_literal.new.state; apart = g.apart; oldest = g.oldest; marks = g.marks; cuts = g.cuts } in
-    whole_room g h w sound refl refl (w.unequal ∙ sym (ap unequal_of facts)) tracked facts (λ n. refl) (λ s. refl) w.ready same
+    let same = classes_err g.state t e.err in
+    let tracked = tracked_on g.state t g.apart g.apart g.marks.items g.cuts.items (insides_of g w) e.classes (grown_same g.state.facts.items t.facts.items facts) (λ class x k. k) (indexed_same g.state t g.apart same w.tracked.indexed) w.tracked in
+    let h : Inside = record { alloc = g.alloc; members = g.members; types = g.types; flags = g.flags; uses = g.uses; state = c.read_literal.new.state; apart = g.apart; sorts = g.sorts; marks = g.marks; cuts = g.cuts } in
+    whole_room g h w sound refl refl (w.unequal ∙ sym (ap unequal_of facts)) tracked facts (λ s. refl)
 
 pub track-requires-clause-within : goal.track-requires-clause-within
 track-requires-clause-within c =
@@ -39,17 +37,8 @@ track-requires-clause-within c =
     let w = c.self.invariant in
     subst (λ (k : ℕ). ArePairsWithin k g.apart.pairs.items) (sym c.in_ok-read_literal.ensures.nodes) (pairs_within (count_of g.state) g.state.facts.items g.apart w.unequal w.sound.atoms)
 
-pub track-requires-clause-nodes : goal.track-requires-clause-nodes
-track-requires-clause-nodes c =
-    let g = c.self.inside in
-    let e = c.in_ok-read_literal.ensures in
-    nodes_steady c.as_slice-members.result.now c.read_literal.new.state g.oldest e.steady (λ n k is. let l = nodes_of g c.self.invariant n k is in omega (arith, l, e.nodes))
-
 pub track-requires-clause-class : goal.track-requires-clause-class
-track-requires-clause-class c = omega (arith, c.mark_of-from.ensures.class, (from_within c.self.inside.state c.read_literal.new.state c.in_ok-read_literal.ensures.logged).0)
-
-pub track-requires-clause-size : goal.track-requires-clause-size
-track-requires-clause-size c = omega (arith, c.mark_of-from.ensures.size, (from_within c.self.inside.state c.read_literal.new.state c.in_ok-read_literal.ensures.logged).1)
+track-requires-clause-class c = from_within c.self.inside.state c.read_literal.new.state c.mark_of-from.result c.in_ok-read_literal.ensures.logged c.mark_of-from.ensures.class
 
 pub invariant_of-self-2 : goal.invariant_of-self-2
 invariant_of-self-2 c =
@@ -66,9 +55,7 @@ invariant_of-self-2 c =
       tracked = tracked_on g.state t g.apart b g.marks.items g.cuts.items (insides_of g w) e.classes (fact ∷ [], e.facts) c.track.ensures.cuts (indexed_after g.state t g.apart b c.mark_of-from.result e.logged c.mark_of-from.ensures.class e.coarser e.steady.working.rings.root c.track.ensures.joins w.tracked.indexed) w.tracked;
       unequal = ap (λ v. map numbers_of_pair v.items) c.track.ensures.pairs ∙ (w.unequal ∙ sym (unequal_merged g.state.facts.items t.facts.items fact c.args.atom e.facts c.fact_of-fact.ensures.lit));
       read = read_more g.members.items g.state.facts.items t.facts.items fact e.facts (joins_in g c.args.self.now c.self.view_is c.args.bank.now.atoms c.args.atom fact.atom c.fact_of-fact.ensures.atom c.requires.registered) w.read;
-      sorts = sorts_same g.members.items g.members.items g.types.items g.types.items g.oldest c.track.new.oldest refl refl (kinds_same g.oldest c.track.new.oldest c.track.ensures.kinds) w.sorts;
-      ready = c.track.ensures.ready;
-      right = λ n. right_after g.state t g.oldest c.track.new.oldest c.mark_of-from.result.class c.mark_of-from.result.size e.logged c.mark_of-from.ensures.class c.mark_of-from.ensures.size c.track.ensures.right n (w.right n);
+      sorts = w.sorts;
     }
 
 some_one : (o : Option Atom) (a b : Atom) → o ≡ Some a → o ≡ Some b → b ≡ a

@@ -2,16 +2,14 @@ use Rattle.std.proofs.Common.{Option, Some, [], ap, arith, false, map, refl, sub
 use Rattle.std.specs.Prelude.{slice_get, vec_capacity, vec_len}
 use Rattle.fm_bank.specs.declared.atom.Atom.{Atom}
 use Rattle.fm_cells.specs.Apart.{ArePairsWithin}
-use Rattle.fm_cells.proofs.Following.{kinds_same}
 use Rattle.std.specs.List.{cons_option}
 use Rattle.fm_cong.specs.Facts.{IsAtomBelow, numbers_of_pair, unequal_by, unequal_of}
 use Rattle.fm_cong.specs.Graphs.{Cells}
 use Rattle.fm_cong.specs.States.{class_in, count_of}
 use Rattle.fm_cong.specs.declared.egraph.Egraph.TheInside.{Inside}
 use Rattle.fm_cong.proofs.Keeping.{atom_in, atoms_read, atoms_same, faithful_with, read_held, uses_lent}
-use Rattle.fm_cong.proofs.Tracing.{grown_same, indexed_after, indexed_same, pairs_within, tracked_on}
-use Rattle.fm_cong.proofs.Tracking.{from_within, nodes_steady, right_after}
-use Rattle.fm_cong.proofs.Whole.{insides_of, joins_in, nodes_of, read_more, roots_err, sorts_same, unequal_read, whole_room}
+use Rattle.fm_cong.proofs.Tracing.{from_within, grown_same, indexed_after, indexed_same, pairs_within, tracked_on}
+use Rattle.fm_cong.proofs.Whole.{insides_of, joins_in, read_more, classes_err, unequal_read, whole_room}
 use Rattle.fm_cong.proofs.egraph.Egraph.unequal.Goals as goal
 
 pub invariant_of-self : goal.invariant_of-self
@@ -21,8 +19,8 @@ invariant_of-self c =
     let r = c.in_err-reserve.ensures in
     let b = c.reserve.new.self in
     let tracked = tracked_on g.state g.state g.apart b g.marks.items g.cuts.items (insides_of g w) (λ m k. refl) (grown_same g.state.facts.items g.state.facts.items refl) r.cuts (r.indexed (class_in g.state) w.tracked.indexed) w.tracked in
-    let h : Inside = record { alloc = g.alloc; members = g.members; types = g.types; flags = g.flags; uses = g.uses; state = g.state; apart = c.reserve.new.self; oldest = g.oldest; marks = g.marks; cuts = g.cuts } in
-    whole_room g h w w.sound refl refl (ap (map numbers_of_pair) r.pairs ∙ w.unequal) tracked refl (λ n. refl) (λ s. refl) w.ready (roots_err g.state g.state refl)
+    let h : Inside = record { alloc = g.alloc; members = g.members; types = g.types; flags = g.flags; uses = g.uses; state = g.state; apart = c.reserve.new.self; sorts = g.sorts; marks = g.marks; cuts = g.cuts } in
+    whole_room g h w w.sound refl refl (ap (map numbers_of_pair) r.pairs ∙ w.unequal) tracked refl (λ s. refl)
 
 pub read_literal-requires-clause-uses : goal.read_literal-requires-clause-uses
 read_literal-requires-clause-uses c = uses_lent c.self.inside c.self.invariant.sound c.as_slice-members.result.now c.as_slice.result.now c.as_slice-members.ensures.value c.as_slice.ensures.value
@@ -41,10 +39,10 @@ invariant_of-self-in_err-read_literal c =
     let r = c.in_ok-reserve.ensures in
     let b = c.reserve.new.self in
     let t = c.read_literal.new.state in
-    let same = roots_err g.state t e.err in
-    let tracked = tracked_on g.state t g.apart b g.marks.items g.cuts.items (insides_of g w) e.classes (grown_same g.state.facts.items t.facts.items facts) r.cuts (indexed_same g.state t b same.class (r.indexed (class_in g.state) w.tracked.indexed)) w.tracked in
-    let h : Inside = record { alloc = g.alloc; members = g.members; types = g.types; flags = g.flags; uses = g.uses; state = c.read_literal.new.state; apart = c.reserve.new.self; oldest = g.oldest; marks = g.marks; cuts = g.cuts } in
-    whole_room g h w sound refl refl (ap (map numbers_of_pair) r.pairs ∙ (w.unequal ∙ sym (ap unequal_of facts))) tracked facts (λ n. refl) (λ s. refl) w.ready same
+    let same = classes_err g.state t e.err in
+    let tracked = tracked_on g.state t g.apart b g.marks.items g.cuts.items (insides_of g w) e.classes (grown_same g.state.facts.items t.facts.items facts) r.cuts (indexed_same g.state t b same (r.indexed (class_in g.state) w.tracked.indexed)) w.tracked in
+    let h : Inside = record { alloc = g.alloc; members = g.members; types = g.types; flags = g.flags; uses = g.uses; state = c.read_literal.new.state; apart = c.reserve.new.self; sorts = g.sorts; marks = g.marks; cuts = g.cuts } in
+    whole_room g h w sound refl refl (ap (map numbers_of_pair) r.pairs ∙ (w.unequal ∙ sym (ap unequal_of facts))) tracked facts (λ s. refl)
 
 pub track-requires-clause-within : goal.track-requires-clause-within
 track-requires-clause-within c =
@@ -61,17 +59,8 @@ note_pair-requires-clause-atom c =
     let here = atom_in c.self.inside c.self.invariant.sound c.args.self.now c.self.view_is c.args.bank.now.atoms c.args.atom c.fact_of-fact.result.atom c.fact_of-fact.ensures.atom c.requires.registered in
     subst (λ (k : ℕ). IsAtomBelow k c.fact_of-fact.result.atom) (sym c.in_ok-read_literal.ensures.nodes) here
 
-pub track-requires-clause-nodes : goal.track-requires-clause-nodes
-track-requires-clause-nodes c =
-    let g = c.self.inside in
-    let e = c.in_ok-read_literal.ensures in
-    nodes_steady c.as_slice-members.result.now c.read_literal.new.state g.oldest e.steady (λ n k is. let l = nodes_of g c.self.invariant n k is in omega (arith, l, e.nodes))
-
 pub track-requires-clause-class : goal.track-requires-clause-class
-track-requires-clause-class c = omega (arith, c.mark_of-from.ensures.class, (from_within c.self.inside.state c.read_literal.new.state c.in_ok-read_literal.ensures.logged).0)
-
-pub track-requires-clause-size : goal.track-requires-clause-size
-track-requires-clause-size c = omega (arith, c.mark_of-from.ensures.size, (from_within c.self.inside.state c.read_literal.new.state c.in_ok-read_literal.ensures.logged).1)
+track-requires-clause-class c = from_within c.self.inside.state c.read_literal.new.state c.mark_of-from.result c.in_ok-read_literal.ensures.logged c.mark_of-from.ensures.class
 
 pub invariant_of-self-2 : goal.invariant_of-self-2
 invariant_of-self-2 c =
@@ -93,9 +82,7 @@ invariant_of-self-2 c =
       unequal = c.note_pair.ensures.pairs ∙ ((λ i. map numbers_of_pair (same_pairs i) ++ cons_option (unequal_by fact) []) ∙ ((λ i. w.unequal i ++ cons_option (unequal_by fact) []) ∙ sym (unequal_read g.state.facts.items t.facts.items fact e.facts)));
       tracked = tracked_on g.state t g.apart d g.marks.items g.cuts.items (insides_of g w) e.classes (fact ∷ [], e.facts) (λ class x k. c.note_pair.ensures.cuts class x (c.track.ensures.cuts class x (r.cuts class x k))) (c.note_pair.ensures.indexed e.steady.working.rings.root followed) w.tracked;
       read = read_more g.members.items g.state.facts.items t.facts.items fact e.facts (joins_in g c.args.self.now c.self.view_is c.args.bank.now.atoms c.args.atom fact.atom c.fact_of-fact.ensures.atom c.requires.registered) w.read;
-      sorts = sorts_same g.members.items g.members.items g.types.items g.types.items g.oldest c.track.new.oldest refl refl (kinds_same g.oldest c.track.new.oldest c.track.ensures.kinds) w.sorts;
-      ready = c.track.ensures.ready;
-      right = λ n. right_after g.state t g.oldest c.track.new.oldest c.mark_of-from.result.class c.mark_of-from.result.size e.logged c.mark_of-from.ensures.class c.mark_of-from.ensures.size c.track.ensures.right n (w.right n);
+      sorts = w.sorts;
     }
 
 some_one : (o : Option Atom) (a b : Atom) → o ≡ Some a → o ≡ Some b → b ≡ a

@@ -27,6 +27,4 @@ invariant_of-self-2 c =
       tracked = subst (λ (ms : List Mark). IsTracked g.state g.apart ms c.put_cut.new.cuts.items) (sym c.in_ok-push.ensures.items) (subst (λ (xs : List Cut). IsTracked g.state g.apart (g.marks.items ++ c.mark_of-mark.result ∷ []) xs) (sym (c.put_cut.ensures ∙ ap (λ xs. xs ++ c.cut.result ∷ []) c.in_ok-reserve.ensures.items)) (tracked_pushed g.state g.apart g.marks.items g.cuts.items c.mark_of-mark.result c.cut.result c.mark_of-mark.ensures c.cut.ensures.pairs c.cut.ensures.keys c.cut.ensures.right w.unequal w.tracked));
       read = w.read;
       sorts = w.sorts;
-      ready = w.ready;
-      right = w.right;
     }

@@ -18,7 +18,7 @@ use Rattle.fm_cong.proofs.Keeping.{atoms_same}
 use Rattle.fm_cong.proofs.Noting.{get_any}
 use Rattle.fm_cong.proofs.Stacking.{all_before}
 use Rattle.fm_cong.proofs.Tracing.{cut_at, tracked_cut}
-use Rattle.fm_cong.proofs.Whole.{AreRead, cut_unequal, map_take, nodes_of, sorts_same}
+use Rattle.fm_cong.proofs.Whole.{AreRead, cut_unequal, map_take}
 use Rattle.fm_cong.proofs.egraph.EgraphUndo.undo_to.Goals as goal
 
 pub invariant_of-self : goal.invariant_of-self
@@ -53,9 +53,7 @@ invariant_of-self c =
       unequal = ap (map numbers_of_pair) c.rewind.ensures.pairs ∙ (map_take numbers_of_pair cut.pairs g.apart.pairs.items ∙ (ap (take cut.pairs) w.unequal ∙ (cut_unequal g.state.facts.items m.facts cut.pairs here.count ∙ sym (ap unequal_of e.facts))));
       tracked = subst (λ (ms : List Mark). IsTracked c.undo.new.state c.rewind.new.self ms c.truncate-2.new.self.items) (sym c.truncate.ensures.items) (subst (λ (xs : List Cut). IsTracked c.undo.new.state c.rewind.new.self (take c.args.level marks) xs) (sym c.truncate-2.ensures.items) tracked);
       read = subst (AreRead g.members.items) (sym e.facts) (All-take (λ (a : Fact). JoinsRegistered g.members.items a.atom) m.facts g.state.facts.items w.read);
-      sorts = sorts_same g.members.items g.members.items g.types.items g.types.items g.oldest c.undo.new.oldest refl refl e.kinds w.sorts;
-      ready = e.ready;
-      right = e.right;
+      sorts = w.sorts;
     }
 
 pub returns-clause-levels : goal.returns-clause-levels
@@ -76,6 +74,3 @@ returns-clause-content c =
     let below : c.args.level < length c.self.inside.marks.items = omega (arith, levels_length g.state.facts.items marks, ap (λ (h : Held). length h.levels) c.self.view_is, c.requires) in
     let there : slice_get marks c.args.level ≡ Some m = slice_get_read marks (length marks) c.args.level m refl below c.index-mark.ensures in
     ap (λ (h : Held). slice_get h.levels c.args.level) (sym c.self.view_is) ∙ (level_at g.state.facts.items marks c.args.level m there ∙ ap (λ (fs : List Fact). Some fs) (sym c.undo.ensures.facts))
-
-pub undo-requires-clause-known : goal.undo-requires-clause-known
-undo-requires-clause-known c = nodes_of c.self.inside c.self.invariant
