@@ -15,8 +15,8 @@ use Rattle.fm_arena.specs.declared.node.Entry.{Entry}
 use Rattle.fm_arena.specs.declared.node.Op.{Op}
 use Rattle.fm_apply.specs.Applied.{Context, all_bool, first_wrong, op_of, same_type, stands_at, type_among, unless_wrong}
 use Rattle.fm_apply.specs.Scoped.{IsTaken, StandsWell, definition_at, number_kind, number_term, stands_in, stood_at, terms_at}
-use Rattle.fm_apply.specs.declared.table.Function.{Function}
-use Rattle.fm_apply.specs.declared.table.Stands.{Stands}
+use Rattle.fm_apply.specs.declared.entry.Function.{Function}
+use Rattle.fm_apply.specs.declared.entry.Stands.{Stands}
 
 pub wrong_step : (es : List Entry) (tys : List Ty) (args : List ℕ) (items : List Sexp) (i : ℕ) (t : Ty) (a : ℕ) (x : Sexp) (w : Option Place) → i < length tys → length args ≡ length tys → length items ≡ length tys
     → same_type (type_at (terms_of es) (get_or args i a)) (get_or tys i t) ≡ true → first_wrong (drop i tys) (terms_at es (drop i args)) (drop i items) ≡ w

@@ -6,8 +6,8 @@ use Rattle.fm_base.specs.declared.signature.Ty.{Ty}
 use Rattle.fm_arena.specs.Meanings.{Term, terms_of}
 use Rattle.fm_arena.specs.declared.node.Entry.{Entry}
 use Rattle.fm_apply.specs.Scoped.{AreBelow, AreInForce, Grows, IsInForce, Numbered, StandBefore, StandsBefore, StandsWell, functions_in, named_in}
-use Rattle.fm_apply.specs.declared.table.Function.{Function}
-use Rattle.fm_apply.specs.declared.table.Stands.{Stands}
+use Rattle.fm_apply.specs.declared.entry.Function.{Function}
+use Rattle.fm_apply.specs.declared.entry.Stands.{Stands}
 use Rattle.fm_apply.proofs.Growing.{functions_stay, grows_longer, named_stays, term_stays}
 
 -- an arena that is cut back grows to what it was

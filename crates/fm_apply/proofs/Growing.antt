@@ -2,6 +2,7 @@
 use Rattle.std.proofs.Common.{◌≡◌, ℕ, zero, suc, ◌<◌, ◌≤◌, ◌+◌, List, [], ◌∷◌, ◌++◌, length, ap, refl, sym, ◌∙◌, arith, append_assoc, append-nil}
 use Rattle.std.specs.Prelude.{slice_get, Option, Some}
 use Rattle.std.proofs.lemmas.List.{length-append, length_push}
+use Rattle.fm_levels.specs.Levels.{joined}
 use Rattle.fm_base.specs.Truth.{is_bool}
 use Rattle.fm_base.specs.declared.signature.Ty.{Ty}
 use Rattle.fm_arena.specs.Meanings.{Making, Term, meaning_in, term_in, terms_of, type_in}
@@ -11,8 +12,8 @@ use Rattle.fm_apply.specs.Applied.{Bound, Context, Function as TheFunction, Name
 use Rattle.fm_apply.specs.Scoped.{AllBelow, AreBelow, AreInForce, Grows, IsInForce, IsReady, Numbered, StandsWell, bound_in, context_in, function_in, functions_in, named_in, names_in, number_kind, number_term, stands_in, terms_at}
 use Rattle.fm_apply.specs.declared.scope.Frame.{Frame}
 use Rattle.fm_apply.specs.declared.scope.Scope.{Scope}
-use Rattle.fm_apply.specs.declared.table.Function.{Function}
-use Rattle.fm_apply.specs.declared.table.Stands.{Stands}
+use Rattle.fm_apply.specs.declared.entry.Function.{Function}
+use Rattle.fm_apply.specs.declared.entry.Stands.{Stands}
 
 pub grows_refl : (es : List Entry) → Grows es es
 grows_refl es = ([], sym (append-nil (terms_of es)))
@@ -98,16 +99,16 @@ below_stays old new bs g h = below_longer (length (terms_of old)) (length (terms
 abbrev context_by : Scope → ℕ → List TheFunction → List Bound → Context
 context_by s places fs bs = record (context_in s [] places []) { functions = fs; bound = bs }
 
-pub context_stays : (s : Scope) (old new : List Entry) (bound : Numbered) (places : ℕ) → Grows old new → AreInForce (terms_of old) s.functions.now → AreBelow (length (terms_of old)) bound
+pub context_stays : (s : Scope) (old new : List Entry) (bound : Numbered) (places : ℕ) → Grows old new → AreInForce (terms_of old) (joined s.functions.now) → AreBelow (length (terms_of old)) bound
     → context_in s bound places (terms_of new) ≡ context_in s bound places (terms_of old)
 context_stays s old new bound places g f b =
-    ap (λ (fs : List TheFunction). context_by s places fs (bound_in (terms_of new) bound)) (functions_stay old new s.functions.now g f)
-    ∙ ap (λ (bs : List Bound). context_by s places (functions_in (terms_of old) s.functions.now) bs) (bound_stays old new bound g b)
+    ap (λ (fs : List TheFunction). context_by s places fs (bound_in (terms_of new) bound)) (functions_stay old new (joined s.functions.now) g f)
+    ∙ ap (λ (bs : List Bound). context_by s places (functions_in (terms_of old) (joined s.functions.now)) bs) (bound_stays old new bound g b)
 
 -- what is ready stays so, where further names were given
 pub ready_stays : (s : Scope) (f : Frame) (old new : List Entry) (was now : Numbered) → Grows old new → IsReady (s, f) (old, was) → AreBelow (length (terms_of new)) now → IsReady (s, f) (new, now)
 ready_stays s f old new was now g r b = record {
-  functions = in_force_stays old new s.functions.now g r.functions;
+  functions = in_force_stays old new (joined s.functions.now) g r.functions;
   bound = below_stays old new (names_in f) g r.bound;
   given = b;
 }

@@ -15,6 +15,7 @@ use Rattle.fm_script.specs.Commands.{bad_shape, place_of_item}
 use Rattle.fm_arena.specs.Measures.{is_fit}
 use Rattle.fm_arena.specs.Meanings.{Meaning, Term, applied, made, measure_of}
 use Rattle.fm_arena.specs.declared.node.Op.{Op}
+pub use Rattle.fm_levels.specs.Tables.{or_else}
 
 abbrev pub refused : Reason → Place → Refusal
 refused reason at = record { reason = reason; at = at }
@@ -77,10 +78,6 @@ abbrev pub used_at : Context → Meaning → Ty → List Term → Result Term Re
 used_at c body ty ts = unless_large c.command (record { ty = ty; meaning = applied body (meanings ts) })
 
 -- names
-
-abbrev pub or_else : {A : Type 0} → Option A → Option A → Option A
-or_else (Some a) other = Some a
-or_else None other = other
 
 abbrev pub function_by : Named → Function
 function_by n = record { name = n.name; args = []; result = n.term.ty; stands = Stands.Defined n.term.meaning }

@@ -3,6 +3,7 @@ use Rattle.std.specs.Prelude.{◌≡◌, true, Bool, ℕ, ◌+◌, ◌<◌, ◌+
 use Rattle.std.specs.Option.{option_map}
 use Rattle.std.specs.List.{list_any}
 use Rattle.std.specs.Str.{bytes_eq}
+use Rattle.fm_levels.specs.Levels.{joined}
 use Rattle.fm_base.specs.Truth.{is_bool}
 use Rattle.fm_base.specs.declared.refusal.Fail.{Fail}
 use Rattle.fm_base.specs.declared.refusal.Place.{Place}
@@ -19,8 +20,8 @@ use Rattle.fm_apply.specs.declared.scope.Frame.{Frame}
 use Rattle.fm_apply.specs.declared.scope.Frame.TheOpen.{Frame-F}
 use Rattle.fm_apply.specs.declared.scope.Frame.TheFolds.{fold-Frame}
 use Rattle.fm_apply.specs.declared.scope.Scope.{Scope}
-use Rattle.fm_apply.specs.declared.table.Function.{Function}
-use Rattle.fm_apply.specs.declared.table.Stands.{Stands}
+use Rattle.fm_apply.specs.declared.entry.Function.{Function}
+use Rattle.fm_apply.specs.declared.entry.Stands.{Stands}
 
 -- names with the numbers of terms
 abbrev pub Numbered : Type 0
@@ -103,8 +104,8 @@ abbrev pub context_in : Scope → Numbered → ℕ → List Term → Context
 context_in s bound places ts =
     record {
       text = s.text.now;
-      sorts = sorts_in s.sorts.now;
-      functions = functions_in ts s.functions.now;
+      sorts = sorts_in (joined s.sorts.now);
+      functions = functions_in ts (joined s.functions.now);
       command = s.command;
       own = option_map (λ n. n.now) s.own;
       naming = s.naming;
@@ -148,7 +149,7 @@ StandBefore n (e ∷ es) = StandsBefore n e.1.stands × StandBefore n es
 
 -- the terms of functions, of bound names and of names given in the command are there
 pub record IsReady (w : Scope × Frame) (m : Moment) : Type 0 where
-  pub functions : AreInForce (terms_of m.0) w.0.functions.now
+  pub functions : AreInForce (terms_of m.0) (joined w.0.functions.now)
   pub bound : AreBelow (length (terms_of m.0)) (names_in w.1)
   pub given : AreBelow (length (terms_of m.0)) m.1
 

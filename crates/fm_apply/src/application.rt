@@ -1,4 +1,5 @@
 ghost use Rattle.std.specs.Prelude.{◌≡◌, ◌<◌, ℕ, List, true, length, map, cond, IfOk, OnOk, OnErr};
+ghost use Rattle.fm_levels.specs.Levels.{joined};
 ghost use Rattle.fm_base.specs.Truth.{is_bool};
 ghost use Rattle.fm_base.specs.declared.signature.Ty.{Ty as TheTy};
 ghost use Rattle.fm_script.specs.Shown.{name_shown};
@@ -13,13 +14,14 @@ ghost use Rattle.fm_apply.specs.Scoped.{Makes, MakesIn, Making, function_in, hea
 ghost use Rattle.fm_apply.specs.declared.scope.Frame.{Frame as TheFrame};
 
 use crate::chains::{equal, implied, xor};
+use crate::entry::Function;
 use crate::making::{make, stand};
 use crate::refusing::refuse;
 use crate::scope::Scope;
-use crate::table::{Function, Table};
 use crate::words::is_truth;
 use fm_arena::{Arena, Op};
 use fm_base::{Fail, Place, Reason, Ty};
+use fm_levels::Table;
 use fm_script::{Part, place};
 use fm_sexp::Sexp;
 use sqlite_items::Items;
@@ -384,7 +386,7 @@ pub fn function(
     requires items { length items.now ≡ length args }
     requires some { 0 < length args }
     requires below { AllAreThere arena.old args }
-    requires ready { AreInForce (terms_of arena.old) scope.now.functions.now }
+    requires ready { AreInForce (terms_of arena.old) (joined scope.now.functions.now) }
     ensures answer { (f : TheFrame) → MakesIn (scope.now, f) (arena.old, given.now) arena.new result
         (λ c fs. head_at c fs at (name_shown part.entry) items.now (terms_at arena.old args)) }
     ensures grows { Grows arena.old arena.new }

@@ -1,17 +1,19 @@
 ghost use Rattle.std.specs.Prelude.{ℕ, List, Some};
+ghost use Rattle.fm_levels.specs.Levels.{joined};
 ghost use Rattle.fm_script.specs.Shown.{name_shown};
 ghost use Rattle.fm_arena.specs.Meanings.{terms_of};
 ghost use Rattle.fm_apply.specs.Applied.{constant_of, core_constant};
 ghost use Rattle.fm_apply.specs.Scoped.{AreInForce, Grows, IsInForce, IsThere, Makes, MakesIn, function_in, lone_at};
 ghost use Rattle.fm_apply.specs.declared.scope.Frame.{Frame as TheFrame};
 
+use crate::entry::Function;
 use crate::making::{make, stand, use_definition};
 use crate::refusing::refuse;
 use crate::scope::Scope;
-use crate::table::{Function, Table};
 use crate::words::is_operator;
 use fm_arena::{Arena, Op};
 use fm_base::{Fail, Reason, Ty};
+use fm_levels::Table;
 use fm_script::Part;
 use sqlite_items::Items;
 use std::alloc::Global;
@@ -67,7 +69,7 @@ pub fn constant(
     given: &Table<'_, usize>,
     part: Part,
 ) -> Result<usize, Fail>
-    requires ready { AreInForce (terms_of arena.old) scope.now.functions.now }
+    requires ready { AreInForce (terms_of arena.old) (joined scope.now.functions.now) }
     ensures answer { (f : TheFrame) → MakesIn (scope.now, f) (arena.old, given.now) arena.new result
         (λ c fs. lone_at c fs (name_shown part.entry)) }
     ensures grows { Grows arena.old arena.new }

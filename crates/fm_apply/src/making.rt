@@ -6,9 +6,9 @@ ghost use Rattle.fm_apply.specs.Applied.{made_at, op_of};
 ghost use Rattle.fm_apply.specs.Scoped.{Grows, IsInForce, IsTaken, IsThere, Makes, definition_at, number_term};
 ghost use Rattle.fm_apply.specs.Scoped.{stood_at, terms_at};
 
+use crate::entry::{Function, Stands};
 use crate::refusing::refuse;
 use crate::scope::Scope;
-use crate::table::{Function, Stands};
 use fm_arena::{Arena, Op};
 use fm_base::{Fail, Reason, SymId, Ty};
 use sqlite_items::Items;

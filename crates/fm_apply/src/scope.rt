@@ -1,8 +1,9 @@
 ghost use Rattle.std.specs.Prelude.{◌≡◌, ◌+◌, min, length, Some, Ok};
 ghost use Rattle.fm_apply.specs.Scoped.{IsMade, further, lower, names_in, newest_number, places_in, zipped};
 
-use crate::table::{Function, NameSet, Table};
+use crate::entry::Function;
 use fm_base::{Fail, Place, Ty};
+use fm_levels::{Levels, NameSet};
 use sqlite_items::Items;
 
 /// What a term of a command may speak of: the script's text, the sorts and functions in force, the place of the
@@ -10,8 +11,8 @@ use sqlite_items::Items;
 #[derive(Clone, Copy)]
 pub struct Scope<'s, 'a> {
     pub text: &'a [u8],
-    pub sorts: &'s Table<'a, Ty>,
-    pub functions: &'s Table<'a, Function>,
+    pub sorts: &'s Levels<'a, Ty>,
+    pub functions: &'s Levels<'a, Function>,
     pub command: Place,
     pub own: Option<&'a [u8]>,
     pub naming: bool,

@@ -5,7 +5,7 @@ ghost use Rattle.fm_apply.specs.Applied.{is_operator as is_operator_of, is_own a
 ghost use Rattle.fm_apply.specs.Scoped.{IsInForceByName, TakesName};
 
 use crate::scope::Scope;
-use crate::table::Table;
+use fm_levels::Table;
 
 /// A name of Core that takes arguments.
 pub(crate) fn is_operator(name: &[u8]) -> bool

@@ -18,11 +18,11 @@ use Rattle.fm_arena.specs.Meanings.{Term, definition_made, term_in, terms_of}
 use Rattle.fm_arena.specs.declared.node.Entry.{Entry}
 use Rattle.fm_apply.specs.Applied.{Context, Function as TheFunction, Named, and_then, in_force, is_core, is_kept_for_solvers, is_own, is_taken, refused}
 use Rattle.fm_apply.specs.Scoped.{AreBelow, Moment, Numbered, context_of, functions_in, named_in, number_term}
-use Rattle.fm_apply.specs.Tables.{has}
+use Rattle.fm_levels.specs.Tables.{has}
 use Rattle.fm_apply.specs.declared.scope.Found.{Found}
 use Rattle.fm_apply.specs.declared.scope.Frame.{Frame}
 use Rattle.fm_apply.specs.declared.scope.Scope.{Scope}
-use Rattle.fm_apply.specs.declared.table.Function.{Function}
+use Rattle.fm_apply.specs.declared.entry.Function.{Function}
 use Rattle.fm_apply.proofs.Adding.{refused_shown}
 use Rattle.fm_apply.proofs.Growing.{below_stays, grows_added, grows_longer, last_below, last_term, named_stays, term_stays}
 use Rattle.fm_apply.proofs.Naming.{any_in_force, given_functions}

@@ -13,8 +13,8 @@ use Rattle.fm_arena.specs.Meanings.{Term, type_at}
 use Rattle.fm_arena.specs.Trees.{all_things}
 use Rattle.fm_apply.specs.Applied.{same_type}
 use Rattle.fm_apply.specs.Scoped.{AreInForce, IsInForce, StandsWell}
-use Rattle.fm_apply.specs.declared.table.Function.{Function}
-use Rattle.fm_apply.specs.declared.table.Stands.{Stands}
+use Rattle.fm_apply.specs.declared.entry.Function.{Function}
+use Rattle.fm_apply.specs.declared.entry.Stands.{Stands}
 
 -- an item within a text, one after the other
 pub lie_step : (n : ℕ) (items : List Sexp) (i : ℕ) (x : Sexp) → i < length items → x ≡ get_or items i x → spans_within n x ≡ true → (all_within n (drop i items) ≡ true → all_within n items ≡ true) → all_within n (drop (i + 1) items) ≡ true → all_within n items ≡ true

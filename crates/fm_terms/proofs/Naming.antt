@@ -15,7 +15,7 @@ use Rattle.fm_script.specs.Shown.{Name}
 use Rattle.fm_script.specs.declared.command.Part.{Part}
 use Rattle.fm_apply.specs.Applied.{Sort, refused}
 use Rattle.fm_apply.specs.Scoped.{IsMade, sorts_in}
-use Rattle.fm_apply.specs.Tables.{is_among_names, looked_up}
+use Rattle.fm_levels.specs.Tables.{is_among_names, looked_up}
 use Rattle.fm_terms.specs.Elaborate.{is_among, repeated, sort_named, unless_repeated, variable_sort, variable_sort_in}
 use Rattle.fm_terms.specs.Scoped.{names_of, shown_pairs}
 

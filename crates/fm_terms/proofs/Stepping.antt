@@ -6,6 +6,7 @@ use Rattle.std.proofs.lemmas.List.{drop_more, map-append}
 use Rattle.std.specs.Borrow.{Bor}
 use Rattle.std.specs.Option.{option_map}
 use Rattle.std.specs.Str.{bytes_eq}
+use Rattle.fm_levels.specs.Levels.{joined}
 use Rattle.fm_base.specs.declared.ids.SortId.{SortId}
 use Rattle.fm_base.specs.declared.refusal.Fail.{Fail}
 use Rattle.fm_base.specs.declared.refusal.Place.{Place}
@@ -179,7 +180,7 @@ below_zipped n (a ∷ ns) [] h = tt
 below_zipped n (a ∷ ns) (i ∷ is) h = (h.0, below_zipped n ns is h.1)
 
 -- the context within a frame
-pub inner_context : (s : Scope) (old mid : List Entry) (outer new : Numbered) (bs : List Bound) (places deeper k : ℕ) → Grows old mid → AreInForce (terms_of old) s.functions.now → AreBelow (length (terms_of old)) outer
+pub inner_context : (s : Scope) (old mid : List Entry) (outer new : Numbered) (bs : List Bound) (places deeper k : ℕ) → Grows old mid → AreInForce (terms_of old) (joined s.functions.now) → AreBelow (length (terms_of old)) outer
     → bound_in (terms_of mid) new ≡ bs → deeper ≡ k
     → context_in s (outer ++ new) deeper (terms_of mid) ≡ with_bound (context_in s outer places (terms_of old)) bs k
 inner_context s old mid outer new bs places deeper k g f b e d =
@@ -303,12 +304,12 @@ none_is ts ns k e = let s : length ns ≡ k = cc in sym s ∙ sym (length_bound 
 abbrev context_parts : Scope → List TheFunction → List Bound → ℕ → Context
 context_parts s fs bs places = record (context_in s [] places []) { functions = fs; bound = bs }
 
-pub under_context : (s : Scope) (old mid : List Entry) (names : List (List ℕ)) (is : List ℕ) (types : List Ty) (places : ℕ) → Grows old mid → AreInForce (terms_of old) s.functions.now → terms_at mid is ≡ parameters_from 0 types → places ≡ length types
+pub under_context : (s : Scope) (old mid : List Entry) (names : List (List ℕ)) (is : List ℕ) (types : List Ty) (places : ℕ) → Grows old mid → AreInForce (terms_of old) (joined s.functions.now) → terms_at mid is ≡ parameters_from 0 types → places ≡ length types
     → context_in s (zipped names is) places (terms_of mid) ≡ context_under s names types (terms_of old)
 under_context s old mid names is types places g f e p =
-    ap (λ (fs : List TheFunction). context_parts s fs (bound_in (terms_of mid) (zipped names is)) places) (functions_stay old mid s.functions.now g f)
-    ∙ ap (λ (bs : List Bound). context_parts s (functions_in (terms_of old) s.functions.now) bs places) (bound_zipped_terms mid names is ∙ ap (bound_to_terms names) e)
-    ∙ ap (λ (k : ℕ). context_parts s (functions_in (terms_of old) s.functions.now) (bound_to_terms names (parameters_from 0 types)) k) p
+    ap (λ (fs : List TheFunction). context_parts s fs (bound_in (terms_of mid) (zipped names is)) places) (functions_stay old mid (joined s.functions.now) g f)
+    ∙ ap (λ (bs : List Bound). context_parts s (functions_in (terms_of old) (joined s.functions.now)) bs places) (bound_zipped_terms mid names is ∙ ap (bound_to_terms names) e)
+    ∙ ap (λ (k : ℕ). context_parts s (functions_in (terms_of old) (joined s.functions.now)) (bound_to_terms names (parameters_from 0 types)) k) p
 
 pub elaborated_stopped : (m : Moment) (f : Fail) (c d : Context) (x : Sexp) → c ≡ d → IsRead m (Err f) (term_at (nesting x + 1) c [] x) → IsElaborated m.0 (Err f) (elaborated d x)
 elaborated_stopped m Fail.Memory c d x e h = tt
@@ -379,7 +380,7 @@ leaves_as m (Err e) f h lt b = tt
 
 -- Frames.
 
-pub inner_ready : (s : Scope) (outer : Bor Frame) (names : List (List ℕ)) (is : List ℕ) (places : ℕ) (mid : List Entry) (given : Numbered) → AreInForce (terms_of mid) s.functions.now → AreBelow (length (terms_of mid)) (names_in outer.now) → AllBelow (length (terms_of mid)) is → AreBelow (length (terms_of mid)) given
+pub inner_ready : (s : Scope) (outer : Bor Frame) (names : List (List ℕ)) (is : List ℕ) (places : ℕ) (mid : List Entry) (given : Numbered) → AreInForce (terms_of mid) (joined s.functions.now) → AreBelow (length (terms_of mid)) (names_in outer.now) → AllBelow (length (terms_of mid)) is → AreBelow (length (terms_of mid)) given
     → IsReady (s, Frame.Inner outer names is places) (mid, given)
 inner_ready s outer names is places mid given f b i g = record {
   functions = f;
@@ -392,14 +393,14 @@ frame_context s outer names is places ts =
     ap (λ (ns : Numbered). context_in s ns (places_in (Frame.Inner outer names is places)) ts) (names_inside outer names is places)
     ∙ ap (λ (k : ℕ). context_in s (names_in outer.now ++ zipped names is) k ts) (places_inside outer names is places)
 
-pub let_context : (s : Scope) (outer : Bor Frame) (names : List (List ℕ)) (ps : List (Name × Sexp)) (is : List ℕ) (places : ℕ) (old mid : List Entry) → Grows old mid → AreInForce (terms_of old) s.functions.now → AreBelow (length (terms_of old)) (names_in outer.now)
+pub let_context : (s : Scope) (outer : Bor Frame) (names : List (List ℕ)) (ps : List (Name × Sexp)) (is : List ℕ) (places : ℕ) (old mid : List Entry) → Grows old mid → AreInForce (terms_of old) (joined s.functions.now) → AreBelow (length (terms_of old)) (names_in outer.now)
     → names_of ps ≡ names → places ≡ places_in outer.now → context_of (s, Frame.Inner outer names is places) (terms_of mid) ≡ with_bound (context_of (s, outer.now) (terms_of old)) (bound_to ps (terms_at mid is)) (places_in outer.now)
 let_context s outer names ps is places old mid g f b n p =
     frame_context s outer names is places (terms_of mid)
     ∙ inner_context s old mid (names_in outer.now) (zipped names is) (bound_to ps (terms_at mid is)) (places_in outer.now) places (places_in outer.now) g f b
     (ap (λ (ns : List (List ℕ)). bound_in (terms_of mid) (zipped ns is)) (sym n) ∙ bound_zipped mid ps is) p
 
-pub block_context : (s : Scope) (outer : Bor Frame) (names : List (List ℕ)) (ps : List (Name × Sexp)) (is : List ℕ) (ss : List SortId) (base deeper : ℕ) (old mid : List Entry) → Grows old mid → AreInForce (terms_of old) s.functions.now → AreBelow (length (terms_of old)) (names_in outer.now)
+pub block_context : (s : Scope) (outer : Bor Frame) (names : List (List ℕ)) (ps : List (Name × Sexp)) (is : List ℕ) (ss : List SortId) (base deeper : ℕ) (old mid : List Entry) → Grows old mid → AreInForce (terms_of old) (joined s.functions.now) → AreBelow (length (terms_of old)) (names_in outer.now)
     → names ≡ names_of ps → base ≡ places_in outer.now → terms_at mid is ≡ variables_from base ss → deeper ≡ base + length ss
     → context_of (s, Frame.Inner outer names is deeper) (terms_of mid) ≡ with_bound (context_of (s, outer.now) (terms_of old)) (variables_named (places_in outer.now) ps ss) (places_in outer.now + length ss)
 block_context s outer names ps is ss base deeper old mid g f b n p t d =
@@ -448,13 +449,13 @@ shown_long [] = refl
 shown_long (a ∷ list) = ap suc (shown_long list)
 
 -- the frame of a command's parameters
-pub top_ready : (s : Scope) (outer : Bor Frame) (names : List (List ℕ)) (is : List ℕ) (places : ℕ) (old mid : List Entry) (given : Numbered) → outer.now ≡ Frame.Top → Grows old mid → AreInForce (terms_of old) s.functions.now → AllBelow (length (terms_of mid)) is → given ≡ []
+pub top_ready : (s : Scope) (outer : Bor Frame) (names : List (List ℕ)) (is : List ℕ) (places : ℕ) (old mid : List Entry) (given : Numbered) → outer.now ≡ Frame.Top → Grows old mid → AreInForce (terms_of old) (joined s.functions.now) → AllBelow (length (terms_of mid)) is → given ≡ []
     → IsReady (s, Frame.Inner outer names is places) (mid, given)
 top_ready s outer names is places old mid given t g f b e =
-    inner_ready s outer names is places mid given (in_force_stays old mid s.functions.now g f)
+    inner_ready s outer names is places mid given (in_force_stays old mid (joined s.functions.now) g f)
     (subst (λ (ns : Numbered). AreBelow (length (terms_of mid)) ns) (sym (ap names_in t ∙ names_top)) tt) b (subst (λ (ns : Numbered). AreBelow (length (terms_of mid)) ns) (sym e) tt)
 
-pub top_context : (s : Scope) (outer : Bor Frame) (names : List (List ℕ)) (is : List ℕ) (types : List Ty) (places : ℕ) (old mid : List Entry) → outer.now ≡ Frame.Top → Grows old mid → AreInForce (terms_of old) s.functions.now → terms_at mid is ≡ parameters_from 0 types → places ≡ length types
+pub top_context : (s : Scope) (outer : Bor Frame) (names : List (List ℕ)) (is : List ℕ) (types : List Ty) (places : ℕ) (old mid : List Entry) → outer.now ≡ Frame.Top → Grows old mid → AreInForce (terms_of old) (joined s.functions.now) → terms_at mid is ≡ parameters_from 0 types → places ≡ length types
     → context_of (s, Frame.Inner outer names is places) (terms_of mid) ≡ context_under s names types (terms_of old)
 top_context s outer names is types places old mid t g f e p =
     frame_context s outer names is places (terms_of mid)

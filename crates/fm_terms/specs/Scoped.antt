@@ -2,6 +2,7 @@
 use Rattle.std.specs.Prelude.{◌≡◌, true, false, ℕ, ◌+◌, ◌<◌, ◌≤◌, max, cond, List, [], ◌∷◌, length, map, Option, Some, None, is_some, Result, Ok, Err, IfOk}
 use Rattle.std.specs.Borrow.{Bor}
 use Rattle.std.specs.Option.{option_map}
+use Rattle.fm_levels.specs.Levels.{joined}
 use Rattle.fm_base.specs.Truth.{is_bool}
 use Rattle.fm_base.specs.declared.ids.SortId.{SortId}
 use Rattle.fm_base.specs.declared.refusal.Fail.{Fail}
@@ -125,8 +126,8 @@ abbrev pub context_under : Scope → List (List ℕ) → List Ty → List Term �
 context_under s names types ts =
     record {
       text = s.text.now;
-      sorts = sorts_in s.sorts.now;
-      functions = functions_in ts s.functions.now;
+      sorts = sorts_in (joined s.sorts.now);
+      functions = functions_in ts (joined s.functions.now);
       command = s.command;
       own = option_map (λ n. n.now) s.own;
       naming = s.naming;

@@ -10,9 +10,10 @@ ghost use Rattle.fm_terms.specs.Elaborate.{name_in as name_in_of, named_at};
 ghost use Rattle.fm_terms.specs.Scoped.{Leaves, ReadsAs, given_name, read_in, AreValuesWithin, IsValueBefore};
 ghost use Rattle.fm_terms.specs.Scoped.{IsValueWithin, attribute_shown, attributes_shown};
 
-use fm_apply::{Found, Frame, Scope, Table, count, is_taken, refuse};
+use fm_apply::{Found, Frame, Scope, count, is_taken, refuse};
 use fm_arena::Arena;
 use fm_base::{Fail, Place, Reason};
+use fm_levels::Table;
 use fm_script::{Part, keyword, members, name};
 use fm_sexp::Sexp;
 use std::alloc::{AllocError, Global};

@@ -1,5 +1,6 @@
 ghost use Rattle.std.specs.Prelude.{◌≡◌, ℕ, ◌<◌, List, None, Some, true, length, map, IfOk, IfSome};
 ghost use Rattle.std.specs.Option.{option_map};
+ghost use Rattle.fm_levels.specs.Levels.{joined};
 ghost use Rattle.fm_sexp.specs.Items.{all_within, spans_within};
 ghost use Rattle.fm_script.specs.Commands.{members_of, name_of};
 ghost use Rattle.fm_script.specs.Shown.{name_shown};
@@ -17,11 +18,12 @@ use crate::variables::{
     Variables, block_variables, close, parameter_names, variable_names, variable_pairs,
 };
 use fm_apply::{
-    Found, Frame, NameSet, Scope, Table, constant, count, function, newest, outside, past_all,
-    places, refuse, within_let,
+    Found, Frame, Scope, constant, count, function, newest, outside, past_all, places, refuse,
+    within_let,
 };
 use fm_arena::Arena;
 use fm_base::{Fail, Place, Reason, Ty};
+use fm_levels::{NameSet, Table};
 use fm_script::{Part, members, name, place, references, symbol};
 use fm_sexp::Sexp;
 use sqlite_items::Items;
@@ -475,7 +477,7 @@ pub fn elaborate<'a>(
     item: &'a Sexp,
 ) -> Result<Elaborated<'a>, Fail>
     requires within { spans_within (length scope.now.text.now) item.now ≡ true }
-    requires ready { AreInForce (terms_of arena.old) scope.now.functions.now }
+    requires ready { AreInForce (terms_of arena.old) (joined scope.now.functions.now) }
     requires types { length names ≡ length types.now }
     ensures answer { let c = context_under scope.now names.entry types.now (terms_of arena.old) in
         IsElaborated arena.new result (elaborated c item.now) }

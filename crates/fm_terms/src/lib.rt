@@ -11,5 +11,6 @@ mod tests;
 mod variables;
 
 pub use elaboration::{Elaborated, elaborate};
-pub use fm_apply::{Function, NameSet, Scope, Stands, Table, is_core, is_kept_for_solvers};
+pub use fm_apply::{Function, Scope, Stands, is_core, is_kept_for_solvers};
+pub use fm_levels::{Levels, NameSet, Table};
 pub use pairs::distinct_names;

@@ -7,8 +7,9 @@ ghost use Rattle.fm_terms.specs.Elaborate.{items_in, nesting, nesting_all, pair_
 ghost use Rattle.fm_terms.specs.Elaborate.{unless_repeated};
 ghost use Rattle.fm_terms.specs.Scoped.{names_of, shown_pairs, ArePairsWithin, ArePairsNested};
 
-use fm_apply::{NameSet, refuse};
+use fm_apply::refuse;
 use fm_base::{Fail, Reason};
+use fm_levels::NameSet;
 use fm_script::{Part, name};
 use fm_sexp::Sexp;
 use std::alloc::{AllocError, Global};

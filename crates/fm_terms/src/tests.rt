@@ -3,10 +3,13 @@ ghost use Rattle.fm_base.specs.Truth.{is_bool};
 ghost use Rattle.fm_sexp.specs.Items.{all_within, bars_of, spans_within};
 ghost use Rattle.fm_arena.specs.Trees.{all_things};
 ghost use Rattle.fm_arena.specs.Meanings.{terms_of};
+ghost use Rattle.fm_levels.specs.Levels.{joined};
 ghost use Rattle.fm_apply.specs.Scoped.{AreInForce, IsInForce};
 
 use crate::shown::{shown, shown_fail};
-use crate::{Elaborated, Function, NameSet, Scope, Stands, Table, distinct_names, elaborate};
+use crate::{
+    Elaborated, Function, Levels, NameSet, Scope, Stands, Table, distinct_names, elaborate,
+};
 use fm_apply::same_type;
 use fm_arena::Arena;
 use fm_base::{Fail as Failure, Memory, Place, SortId, SymId, Ty};
@@ -28,8 +31,8 @@ const FIRST: &[u8] =
 // What stands declared and defined, and the number of the term that was elaborated last.
 #[derive(Drop)]
 struct World<'a> {
-    sorts: Table<'a, Ty>,
-    functions: Table<'a, Function>,
+    sorts: Levels<'a, Ty>,
+    functions: Levels<'a, Function>,
     arena: Arena,
     last: usize,
 }
@@ -106,10 +109,13 @@ fn stands_well(arena: &Arena, function: &Function) -> bool
 }
 
 // Whether all functions may be in force.
-fn all_stand_well(arena: &Arena, functions: &Table<'_, Function>) -> bool
-    ensures { result ≡ true → AreInForce (terms_of arena.now) functions.now }
+fn all_stand_well(arena: &Arena, functions: &Levels<'_, Function>) -> bool
+    ensures { result ≡ true → AreInForce (terms_of arena.now) (joined functions.now) }
 {
-    for place in 0..functions.len() {
+    let Some(count) = functions.count() else {
+        return false;
+    };
+    for place in 0..count {
         match functions.at(place) {
             None => return false,
             Some((_, function)) => {
@@ -154,7 +160,7 @@ fn declare<'a>(
         result: type_of(world, text, sort),
         stands: Stands::Declared(SymId(symbol)),
     };
-    match world.functions.insert(name.bytes, function) {
+    match world.functions.insert(false, name.bytes, function) {
         Err(_) => Err(Failure::Memory),
         Ok(_) => Ok(()),
     }
@@ -173,7 +179,7 @@ fn take_given<'a>(
                 result: world.arena.ty(*number),
                 stands: Stands::Defined(*number),
             };
-            match world.functions.insert(name, function) {
+            match world.functions.insert(false, name, function) {
                 Err(_) => return Err(Failure::Memory),
                 Ok(_) => {}
             }
@@ -258,7 +264,7 @@ fn define<'a>(
         args: Items::from_vec(types),
         stands: Stands::Defined(number),
     };
-    match world.functions.insert(name.bytes, function) {
+    match world.functions.insert(false, name.bytes, function) {
         Err(_) => Err(Failure::Memory),
         Ok(_) => Ok(()),
     }
@@ -266,7 +272,7 @@ fn define<'a>(
 
 // Puts a sort in force.
 fn add_sort<'a>(world: &mut World<'a>, name: Part<'a>, ty: Ty) -> Result<(), Failure> {
-    match world.sorts.insert(name.bytes, ty) {
+    match world.sorts.insert(false, name.bytes, ty) {
         Err(_) => Err(Failure::Memory),
         Ok(_) => Ok(()),
     }
@@ -355,8 +361,8 @@ fn answer_of(alloc: Global, script: &[u8]) -> Result<Vec<u8>, Memory> {
         Ok(items) => items,
     };
     let mut world = World {
-        sorts: Table::new(alloc),
-        functions: Table::new(alloc),
+        sorts: Levels::new(alloc),
+        functions: Levels::new(alloc),
         arena: Arena::new(alloc),
         last: 0,
     };

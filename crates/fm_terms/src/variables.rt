@@ -1,5 +1,6 @@
 ghost use Rattle.std.specs.Prelude.{◌≡◌, true, length, IfOk, IfSome};
 ghost use Rattle.std.specs.Option.{option_copied};
+ghost use Rattle.fm_levels.specs.Levels.{joined};
 ghost use Rattle.fm_sexp.specs.Items.{spans_within, all_within};
 ghost use Rattle.fm_script.specs.Commands.{name_of, parameters_of, place_of_item};
 ghost use Rattle.fm_script.specs.Shown.{IsShownBy};
@@ -9,9 +10,10 @@ ghost use Rattle.fm_terms.specs.Elaborate.{variable_sorts, variables_at};
 ghost use Rattle.fm_terms.specs.Scoped.{ArePairsWithin, Closes, names_of, parameters_from, shown_pairs, variables_from};
 
 use crate::pairs::distinct_names;
-use fm_apply::{NameSet, Scope, refuse};
+use fm_apply::{Scope, refuse};
 use fm_arena::Arena;
 use fm_base::{Fail, Place, Reason, SortId, Ty};
+use fm_levels::NameSet;
 use fm_script::{Part, name, parameters, place};
 use fm_sexp::Sexp;
 use sqlite_items::Items;
@@ -53,7 +55,7 @@ fn sort_found(found: Option<&Ty>, at: Place) -> Result<SortId, Fail>
 fn variable_sort(scope: &Scope<'_, '_>, item: &Sexp) -> Result<SortId, Fail>
     requires { spans_within (length scope.now.text.now) item.now ≡ true }
     ensures { IsMade result
-        (variable_sort_of (sorts_in scope.now.sorts.now) (place_of_item item.now)
+        (variable_sort_of (sorts_in (joined scope.now.sorts.now)) (place_of_item item.now)
         (name_of scope.now.text.now item.now)) }
 {
     match name(scope.text, item) {
@@ -73,7 +75,7 @@ fn sorts_of(
     pairs: &[(Part, &Sexp)],
 ) -> Result<Items<SortId>, Fail>
     requires within { ArePairsWithin scope.now.text.now (shown_pairs pairs.now) }
-    ensures { IsMade result (variable_sorts scope.now.text.now (sorts_in scope.now.sorts.now) (shown_pairs pairs.now)) }
+    ensures { IsMade result (variable_sorts scope.now.text.now (sorts_in (joined scope.now.sorts.now)) (shown_pairs pairs.now)) }
 {
     let mut sorts = Vec::new(alloc);
     for pair in pairs {
@@ -94,7 +96,7 @@ pub(crate) fn block_variables<'a>(
 ) -> Result<Variables<'a>, Fail>
     requires within { ArePairsWithin scope.now.text.now (shown_pairs pairs.now) }
     ensures sorts { IsShown (λ v. v.sorts) result
-        (variables_at scope.now.text.now (sorts_in scope.now.sorts.now) at (shown_pairs pairs.now)) }
+        (variables_at scope.now.text.now (sorts_in (joined scope.now.sorts.now)) at (shown_pairs pairs.now)) }
     ensures names { IfOk result (λ v. v.names ≡ names_of (shown_pairs pairs.now)) }
 {
     if pairs.len() < 1 {

@@ -1,6 +1,7 @@
 use Rattle.std.proofs.Common.{List, ap, arith, length, refl, subst, sym, ℕ, ◌+◌, ◌<◌, ◌∙◌, ◌≡◌}
 use Rattle.std.specs.Prelude.{Err, None, Ok, max, min}
 use Rattle.std.proofs.lemmas.List.{length-drop, length_push}
+use Rattle.fm_levels.specs.Levels.{joined}
 use Rattle.fm_base.specs.declared.refusal.Place.{Place}
 use Rattle.fm_sexp.specs.declared.items.Sexp.{Sexp}
 use Rattle.fm_script.specs.Commands.{name_of}
@@ -120,7 +121,7 @@ application-returns-in-Err-clause-answer t c =
     (subst (λ (xs : List Sexp). IsShown (reads_shown m) (Err c.in-Err.fail) (all_at (term_at n) x ns xs)) items (c.in-Err.ensures.answer n (subst (λ (xs : List Sexp). nesting_all xs < n) (sym items) less)))
 
 pub application-function-requires-clause-ready : goal.application-function-requires-clause-ready
-application-function-requires-clause-ready t c = in_force_stays c.args.arena.now c.all.new.arena c.args.scope.now.functions.now c.in-Ok.ensures.grows c.requires.ready.functions
+application-function-requires-clause-ready t c = in_force_stays c.args.arena.now c.all.new.arena (joined c.args.scope.now.functions.now) c.in-Ok.ensures.grows c.requires.ready.functions
 
 pub application-returns-in-Err-function-clause-answer : goal.application-returns-in-Err-function-clause-answer
 application-returns-in-Err-function-clause-answer t c =
@@ -185,7 +186,7 @@ let_over-term-requires t c =
       (
         c.requires.body,
         inner_ready c.args.scope.now c.args.frame c.in-Ok.names c.in-Ok-all.args.numbers c.places.result mid c.all.new.given
-            (in_force_stays old mid c.args.scope.now.functions.now g c.requires.ready.functions) (below_stays old mid (names_in c.args.frame.now) g c.requires.ready.bound) c.in-Ok-all.ensures.below.0 c.in-Ok-all.ensures.below.1,
+            (in_force_stays old mid (joined c.args.scope.now.functions.now) g c.requires.ready.functions) (below_stays old mid (names_in c.args.frame.now) g c.requires.ready.bound) c.in-Ok-all.ensures.below.0 c.in-Ok-all.ensures.below.1,
       ),
     )
 
@@ -239,7 +240,7 @@ quantifier_over-term-requires t c =
       (
         c.requires.body,
         inner_ready c.args.scope.now c.args.frame c.in-Ok.vars.names c.in-Ok-variable_names.numbers c.in-Some.deeper mid c.args.given.now
-            (in_force_stays old mid c.args.scope.now.functions.now g c.requires.ready.functions) (below_stays old mid (names_in c.args.frame.now) g c.requires.ready.bound) c.in-Ok-variable_names.ensures.below (below_stays old mid c.args.given.now g c.requires.ready.given),
+            (in_force_stays old mid (joined c.args.scope.now.functions.now) g c.requires.ready.functions) (below_stays old mid (names_in c.args.frame.now) g c.requires.ready.bound) c.in-Ok-variable_names.ensures.below (below_stays old mid c.args.given.now g c.requires.ready.given),
       ),
     )
 

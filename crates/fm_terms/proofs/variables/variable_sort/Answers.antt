@@ -2,6 +2,7 @@ use Rattle.std.proofs.Common.{false, sym, ◌∙◌, ◌≡◌}
 use Rattle.std.specs.Prelude.{codes}
 use Rattle.std.specs.Option.{option_copied}
 use Rattle.std.specs.Str.{bytes_eq}
+use Rattle.fm_levels.specs.Levels.{joined}
 use Rattle.fm_script.specs.Commands.{place_of_item}
 use Rattle.fm_script.specs.Shown.{name_shown}
 use Rattle.fm_apply.specs.Scoped.{sorts_in}
@@ -14,5 +15,5 @@ returns-else-eq c =
     let k = c.if-eq.false in
     let s = c.as_slice.ensures in
     let e : bytes_eq c.in-Some.part.bytes.now (codes "Bool") ≡ false = cc in
-    sort_by (sorts_in c.args.scope.now.sorts.now) (place_of_item c.args.item.now) (name_shown c.in-Some.part) _ (option_copied c.get.result) c.sort_found.result (sym c.in-Some.ensures) e
-    (c.get.ensures ∙ sym (sort_is c.in-Some.part.bytes.now c.args.scope.now.sorts.now)) c.sort_found.ensures
+    sort_by (sorts_in (joined c.args.scope.now.sorts.now)) (place_of_item c.args.item.now) (name_shown c.in-Some.part) _ (option_copied c.get.result) c.sort_found.result (sym c.in-Some.ensures) e
+    (c.get.ensures ∙ sym (sort_is c.in-Some.part.bytes.now (joined c.args.scope.now.sorts.now))) c.sort_found.ensures

@@ -1,0 +1,17 @@
+use Rattle.std.proofs.Common.{List, [], subst, true, ℕ}
+use Rattle.std.specs.Prelude.{None}
+use Rattle.fm_terms.specs.Elaborate.{elaborated}
+use Rattle.fm_terms.specs.Scoped.{IsElaborated}
+use Rattle.fm_elab.specs.Givens.{read_in}
+use Rattle.fm_elab.specs.Held.{state_of}
+use Rattle.fm_elab.specs.Stacks.{State}
+use Rattle.fm_elab.specs.Steps.{asserted, context_at}
+use Rattle.fm_elab.proofs.Holding.{goes_on}
+use Rattle.fm_elab.proofs.scopes.Scopes.assert.Goals as goal
+
+pub returns-in-Ok : goal.returns-in-Ok
+returns-in-Ok c =
+    let s = state_of c.args.self.now in
+    let a = subst (λ (ns : List (List ℕ)). IsElaborated c.elaborate.new.self.entries c.elaborate.result (elaborated (context_at c.args.text.now s c.args.at None true ns []) c.args.item.now)) c.new-names.ensures c.elaborate.ensures.answer in
+    let b = subst (λ r. IsElaborated c.elaborate.new.self.entries r (elaborated (context_at c.args.text.now s c.args.at None true [] []) c.args.item.now)) c.in-Ok.is a in
+    goes_on c.asserted.result s (state_of c.elaborate.new.self) (state_of c.asserted.new.self) _ (read_in c.elaborate.new.self.entries b.0 c.in-Ok.term) (λ (t : State). asserted t c.args.item.now) b.1 c.elaborate.ensures.same (c.asserted.ensures b.0)

@@ -1,0 +1,5 @@
+pub mod Stacks
+pub mod Steps
+pub mod Held
+pub mod Shown
+pub mod Givens

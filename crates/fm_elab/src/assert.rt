@@ -1,0 +1,105 @@
+ghost use Rattle.std.specs.Prelude.{◌≡◌, ◌<◌, ℕ, false, true, length, OnErr, OnOk};
+ghost use Rattle.fm_sexp.specs.Items.{spans_within};
+ghost use Rattle.fm_arena.specs.Meanings.{kind_at, terms_of};
+ghost use Rattle.fm_levels.specs.Levels.{in_newest, joined};
+ghost use Rattle.fm_apply.specs.Scoped.{AreBelow, AreInForce, Grows, number_term};
+ghost use Rattle.fm_elab.specs.Givens.{DefinesAll, Extends, given_at, read_in};
+ghost use Rattle.fm_elab.specs.Held.{state_of};
+ghost use Rattle.fm_elab.specs.Stacks.{with_assertion};
+ghost use Rattle.fm_elab.specs.Steps.{Applies, assert_term, asserted, formula_of};
+
+use crate::given::add_given;
+use crate::scopes::Scopes;
+use fm_apply::{Function, refuse};
+use fm_arena::Arena;
+use fm_base::{Fail, Formula, Memory, Place, Reason};
+use fm_levels::{Levels, NameSet, Stack, Table};
+use fm_script::place;
+use fm_sexp::Sexp;
+use fm_terms::Elaborated;
+use std::alloc::Global;
+
+// Adds the names that were given in an assertion, and then the assertion.
+fn add_all<'a>(
+    alloc: Global,
+    arena: &mut Arena,
+    functions: &mut Levels<'a, Function>,
+    assertions: &mut Stack<Formula>,
+    given: &Table<'a, usize>,
+    formula: Formula,
+) -> Result<(), Memory>
+    requires given { AreBelow (length (terms_of arena.old)) given.now }
+    requires in_force { AreInForce (terms_of arena.old) (joined functions.old) }
+    ensures added { OnOk result (DefinesAll false arena.old functions.old arena.new functions.new
+        (given_at arena.old given.now)) }
+    ensures asserted { OnOk result (assertions.new ≡ in_newest assertions.old formula) }
+    ensures in_force { AreInForce (terms_of arena.new) (joined functions.new) }
+    ensures grows { Grows arena.old arena.new }
+    ensures extends { Extends false functions.old functions.new }
+    ensures err { OnErr result (assertions.new ≡ assertions.old) }
+{
+    add_given(alloc, arena, functions, false, given)?;
+    assertions.insert(formula)
+}
+
+impl<'a> Scopes<'a> {
+    // Adds an assertion and the names that were given in it, or nothing.
+    fn add_assertion(&mut self, number: usize, given: Table<'a, usize>) -> Result<(), Memory>
+        requires number { number < length (terms_of self.old.entries) }
+        requires given { AreBelow (length (terms_of self.old.entries)) given }
+        requires truth { kind_at (terms_of self.old.entries) number ≡ true }
+        ensures added { OnOk result (state_of self.new ≡ with_assertion (state_of self.old)
+            (given_at self.old.entries given.entry) (formula_of (number_term self.old.entries number))) }
+        ensures err { OnErr result (state_of self.new ≡ state_of self.old) }
+    {
+        let formula = self.arena.formula(self.alloc, number)?;
+        let count = self.functions.count_in(false);
+        match add_all(
+            self.alloc,
+            &mut self.arena,
+            &mut self.functions,
+            &mut self.assertions,
+            &given,
+            formula,
+        ) {
+            Ok(()) => {
+                self.begun = true;
+                Ok(())
+            }
+            Err(fail) => {
+                self.functions.cut_back(false, count);
+                Err(fail)
+            }
+        }
+    }
+
+    // Adds an assertion whose term was elaborated, where the term is a formula.
+    fn asserted(&mut self, item: &Sexp, term: Elaborated<'a>) -> Result<(), Fail>
+        requires number { term.number < length (terms_of self.old.entries) }
+        requires given { AreBelow (length (terms_of self.old.entries)) term.given }
+        ensures { (low : ℕ) → Applies result (state_of self.old)
+            (asserted (state_of self.old) item.now (read_in self.old.entries low term.entry)) (state_of self.new) }
+    {
+        let Elaborated { number, given } = term;
+        if !self.arena.ty(number).is_bool() {
+            return Err(refuse(Reason::SortMismatch, place(item)));
+        }
+        match self.add_assertion(number, given) {
+            Err(_) => Err(Fail::Memory),
+            Ok(()) => Ok(()),
+        }
+    }
+
+    /// `assert`.
+    pub(crate) fn assert(&mut self, text: &'a [u8], at: Place, item: &'a Sexp) -> Result<(), Fail>
+        requires { spans_within (length text.now) item.now ≡ true }
+        ensures { Applies result (state_of self.old) (assert_term text.now (state_of self.old) at item.now)
+            (state_of self.new) }
+    {
+        let names = NameSet::new(self.alloc);
+        match self.elaborate(text, at, None, true, names, &[], item) {
+            Err(fail) => Err(fail),
+            Ok(term) => self.asserted(item, term),
+        }
+    }
+}

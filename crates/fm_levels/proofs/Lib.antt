@@ -1,0 +1,4 @@
+pub mod Tabling
+pub mod Naming
+pub mod Cutting
+pub mod Leveling
