@@ -1,5 +1,6 @@
 -- What stays right of an assertion stack.
-use Rattle.std.proofs.lemmas.List.{length-map}
+use Rattle.std.proofs.lemmas.List.{length-map, map-append}
+use Rattle.std.specs.Borrow.{Bor}
 use Rattle.std.proofs.Common.{Bool, true, false, ◌≡◌, ℕ, zero, suc, ◌+◌, ◌-◌, ◌<◌, ◌≤◌, List, [], ◌∷◌, ◌++◌, length, map, drop, ap, refl, sym, subst, ◌∙◌, arith, append_assoc}
 use Rattle.std.specs.Prelude.{Err, None, Ok, OnOk, Option, Result, Some, cond, slice_get, ◌||◌}
 use Rattle.fm_base.specs.Truth.{is_bool}
@@ -29,6 +30,7 @@ use Rattle.fm_terms.specs.Scoped.{IsElaborated, names_of}
 use Rattle.fm_terms.specs.declared.elaboration.Elaborated.{Elaborated}
 use Rattle.fm_elab.specs.Givens.{Extends, definition_at, given_at}
 use Rattle.fm_elab.specs.Held.{Held, IsWhole, functions_at, held_in, state_of}
+use Rattle.fm_elab.specs.Shown.{names_shown}
 use Rattle.fm_elab.specs.Stacks.{State, closed, fewer_levels, is_barred, is_function_taken, is_named, more_levels, next_function, opened, put_function, put_functions, with_symbol}
 use Rattle.fm_elab.specs.Steps.{Applies, Next, argument_sort, context_at, define_function, defined, definition, each_sort, refused_where, sort_at}
 use Rattle.fm_elab.proofs.Placing.{extends_trans, fewer_at, fewer_in_force, joined_at, length_fewer, length_more, levels_stay, more_at, more_in_force, named_at, put_at, put_in_force}
@@ -290,15 +292,16 @@ names_length one ps names tys d e =
     let apart = not_repeated (repeated [] ps) (names_of ps) names d in
     ap length (sym apart.1) ∙ length-map ps (λ (p : Name × Sexp). p.0.bytes) ∙ sym (length-map ps (λ (p : Name × Sexp). p.1)) ∙ sym (each_length one (items_in ps) tys e)
 
--- one rank more
+-- A list that is made from another, one by one.
 
-pub rank_step : (xs : List (List ℕ × Rank)) (i : ℕ) (ranks new goal : List Rank) (e : List ℕ × Rank) (copy : Rank) → slice_get xs i ≡ Some e → copy ≡ e.1 → new ≡ ranks ++ copy ∷ []
-    → ranks ++ map (λ (x : List ℕ × Rank). x.1) (drop i xs) ≡ goal → new ++ map (λ (x : List ℕ × Rank). x.1) (drop (i + 1) xs) ≡ goal
-rank_step xs i ranks new goal e copy s c n h =
-    let rest = map (λ (x : List ℕ × Rank). x.1) (drop (i + 1) xs) in
-    ap (λ (l : List Rank). l ++ rest) n ∙ append_assoc ranks (copy ∷ []) rest ∙ ap (λ (r : Rank). ranks ++ r ∷ rest) c
-    ∙ ap (λ (l : List (List ℕ × Rank)). ranks ++ map (λ (x : List ℕ × Rank). x.1) l) (sym (drop_here xs i e s)) ∙ h
+pub each_step : {A B : Type 0} (f : A → B) (xs : List A) (i : ℕ) (done new goal : List B) (e : A) (b : B) → slice_get xs i ≡ Some e → b ≡ f e → new ≡ done ++ b ∷ [] → done ++ map f (drop i xs) ≡ goal → new ++ map f (drop (i + 1) xs) ≡ goal
+each_step {A = A} {B = B} f xs i done new goal e b s c n h =
+    let rest = map f (drop (i + 1) xs) in
+    ap (λ (l : List B). l ++ rest) n ∙ append_assoc done (b ∷ []) rest ∙ ap (λ (r : B). done ++ r ∷ rest) c
+    ∙ ap (λ (l : List A). done ++ map f l) (sym (drop_here xs i e s)) ∙ h
 
-pub rank_none : (xs : List (List ℕ × Rank)) (i : ℕ) (ranks new goal : List Rank) → slice_get xs i ≡ None → new ≡ ranks → ranks ++ map (λ (x : List ℕ × Rank). x.1) (drop i xs) ≡ goal → new ++ map (λ (x : List ℕ × Rank). x.1) (drop (i + 1) xs) ≡ goal
-rank_none xs i ranks new goal s n h =
-    ap (λ (l : List Rank). l ++ map (λ (x : List ℕ × Rank). x.1) (drop (i + 1) xs)) n ∙ ap (λ (l : List (List ℕ × Rank)). ranks ++ map (λ (x : List ℕ × Rank). x.1) l) (none_past xs i s) ∙ h
+pub each_none : {A B : Type 0} (f : A → B) (xs : List A) (i : ℕ) (done new goal : List B) → slice_get xs i ≡ None → new ≡ done → done ++ map f (drop i xs) ≡ goal → new ++ map f (drop (i + 1) xs) ≡ goal
+each_none {A = A} {B = B} f xs i done new goal s n h = ap (λ (l : List B). l ++ map f (drop (i + 1) xs)) n ∙ ap (λ (l : List A). done ++ map f l) (none_past xs i s) ∙ h
+
+pub names_push : (ns : List (Bor (List ℕ))) (n : Bor (List ℕ)) → names_shown (ns ++ n ∷ []) ≡ names_shown ns ++ n.now ∷ []
+names_push ns n = map-append (λ (m : Bor (List ℕ)). m.now) ns (n ∷ [])

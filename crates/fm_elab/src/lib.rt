@@ -7,10 +7,14 @@ mod both;
 mod declare;
 mod define;
 mod given;
+#[cfg(test)]
+mod large_tests;
 mod levels;
 mod problem;
 mod scopes;
 mod sorts;
+#[cfg(test)]
+mod tests;
 
-pub use problem::Problem;
+pub use problem::{Closed, Problem};
 pub use scopes::Scopes;
