@@ -4,13 +4,17 @@ use crate::tests::outcome;
 use fm_base::Memory;
 use std::alloc::Global;
 
-// Adds a letter and a number of six digits.
+// Adds a letter and a number in base two, the last digit first.
 fn push_name(text: &mut Vec<u8>, letter: u8, number: usize) -> Result<(), Memory> {
     text.push(letter)?;
-    let mut unit = 100_000;
-    while unit > 0 {
-        text.push(b'0' + (number / unit % 10) as u8)?;
-        unit /= 10;
+    let mut rest = number;
+    for _ in 0..17 {
+        if rest % 2 == 1 {
+            text.push(b'1')?;
+        } else {
+            text.push(b'0')?;
+        }
+        rest /= 2;
     }
     Ok(())
 }
@@ -37,7 +41,7 @@ fn many_commands(alloc: Global, count: usize) -> Result<Vec<u8>, Memory> {
     Ok(text)
 }
 
-// Eight megabytes of declarations and assertions.
+// Thirteen megabytes of declarations and assertions.
 #[test]
 fn carries_out_many_commands(rt: HostRuntime) -> Result<(), Memory> {
     let text = many_commands(rt.alloc(), 100_000)?;
