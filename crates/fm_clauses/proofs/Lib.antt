@@ -14,3 +14,9 @@ pub mod Steps
 pub mod Listings
 pub mod Marking
 pub mod Problems
+pub mod SortedTerms
+pub mod SortedForms
+pub mod SortedClauses
+pub mod LiftedRanks
+pub mod SortedTables
+pub mod GroundsAgree

@@ -24,7 +24,7 @@ holds_to : (m : Reading) (fs : List Formula) → AllHold m fs → All (λ f. tru
 holds_to m [] h = λ k d lt. absurd (omega arith)
 holds_to m (f ∷ fs) h = cons_to (λ (g : Formula). truth g m [] ≡ true) f fs h.0 (holds_to m fs h.1)
 
-closed_from : (sig : Sig) (fs : List Formula) → All (λ f. is_closed f sig ≡ true) fs → AllClosed sig fs
+pub closed_from : (sig : Sig) (fs : List Formula) → All (λ f. is_closed f sig ≡ true) fs → AllClosed sig fs
 closed_from sig [] h = tt
 closed_from sig (f ∷ fs) h = (h zero f (omega arith), closed_from sig fs (rest (λ (g : Formula). is_closed g sig ≡ true) f fs h))
 

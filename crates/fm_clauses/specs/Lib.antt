@@ -1,7 +1,9 @@
 pub mod Adding
 pub mod Assertions
+pub mod GroundLaw
 pub mod Listed
 pub mod Marked
 pub mod Narrow
+pub mod SortLaw
 pub mod Table
 pub mod TableLaw

@@ -55,10 +55,11 @@ fn quantified(
     alloc: Global,
     stack: &mut Stack,
     all: bool,
-    count: usize,
+    first: usize,
+    end: usize,
 ) -> Result<Formula, Memory> {
     let mut vars = Vec::new(alloc);
-    for sort in 0..count {
+    for sort in first..end {
         vars.push(SortId(sort))?;
     }
     let body = Boxed::new(alloc, pop(stack))?;
@@ -95,6 +96,8 @@ fn term(alloc: Global, stack: &mut Stack, letter: u8) -> Result<Fterm, Memory> {
         b'g' => Ok(Fterm::App(SymId(6), two_args(alloc, stack)?)),
         b'a' => Ok(Fterm::App(SymId(8), Items::from_vec(Vec::new(alloc)))),
         b'b' => Ok(Fterm::App(SymId(7), Items::from_vec(Vec::new(alloc)))),
+        b'c' => Ok(Fterm::App(SymId(4), Items::from_vec(Vec::new(alloc)))),
+        b'h' => Ok(Fterm::App(SymId(3), args(alloc, stack)?)),
         b'i' => choice(alloc, stack),
         _ => Ok(Fterm::Var(letter.wrapping_sub(b'0') as usize)),
     }
@@ -104,6 +107,7 @@ fn formula(alloc: Global, stack: &mut Stack, letter: u8) -> Result<Formula, Memo
     match letter {
         b'p' => Ok(Formula::Pred(SymId(0), args(alloc, stack)?)),
         b'q' => Ok(Formula::Pred(SymId(1), args(alloc, stack)?)),
+        b's' => Ok(Formula::Pred(SymId(2), args(alloc, stack)?)),
         b'r' => Ok(Formula::Pred(SymId(5), Items::from_vec(Vec::new(alloc)))),
         b'=' => {
             let right = pop_term(stack);
@@ -116,9 +120,11 @@ fn formula(alloc: Global, stack: &mut Stack, letter: u8) -> Result<Formula, Memo
         b'v' => Ok(Formula::Or(only_member(alloc, stack)?)),
         b'~' => iff(alloc, stack),
         b'?' => ite(alloc, stack),
-        b'A' => quantified(alloc, stack, true, 1),
-        b'E' => quantified(alloc, stack, false, 1),
-        b'T' => quantified(alloc, stack, false, 3),
+        b'A' => quantified(alloc, stack, true, 0, 1),
+        b'E' => quantified(alloc, stack, false, 0, 1),
+        b'B' => quantified(alloc, stack, true, 1, 2),
+        b'F' => quantified(alloc, stack, false, 1, 2),
+        b'T' => quantified(alloc, stack, false, 0, 3),
         _ => Ok(Formula::Truth(letter == b't')),
     }
 }
@@ -137,14 +143,15 @@ fn put_formula(alloc: Global, stack: &mut Stack, letter: u8) -> Result<(), Memor
 
 fn put(alloc: Global, stack: &mut Stack, letter: u8) -> Result<(), Memory> {
     match letter {
-        b'0'..=b'9' | b'a' | b'b' | b'f' | b'g' | b'i' => put_term(alloc, stack, letter),
+        b'0'..=b'9' | b'a'..=b'c' | b'f'..=b'i' => put_term(alloc, stack, letter),
         _ => put_formula(alloc, stack, letter),
     }
 }
 
-// A formula from its letters, each operator behind its parts: digits are variables, `a` and `b` constants, `f` and `g`
-// functions of one and of two arguments, `i` a term `ite`, `p` and `q` predicates of one, `r` one of none, `t` and `n`
-// true and false; `w` and `v` make an And and an Or of one member; `A` and `E` bind one variable and `T` binds three.
+// A formula from its letters, each operator behind its parts: digits are variables, `a`, `b` and `c` constants, `f`, `g`
+// and `h` functions of one, two and one arguments, `i` a term `ite`, `p`, `q` and `s` predicates of one, `r` one of none,
+// `t` and `n` true and false; `w` and `v` make an And and an Or of one member; `A` and `E` bind one variable, `B` and `F`
+// one of the second sort, of which `c` is and which `h` and `s` take, and `T` binds three.
 pub(crate) fn built(alloc: Global, letters: &[u8]) -> Result<Formula, Memory> {
     let mut stack = Stack {
         terms: Vec::new(alloc),

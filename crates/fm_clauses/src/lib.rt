@@ -5,6 +5,8 @@
 mod built;
 mod copies;
 mod fresh;
+#[cfg(test)]
+mod large_tests;
 mod laws;
 mod making;
 mod members;
@@ -15,5 +17,7 @@ mod table;
 #[cfg(test)]
 mod tests;
 
-pub use laws::{clauses_say_the_same, table_says_the_same};
+pub use laws::{
+    clauses_say_the_same, ground_terms_agree, table_is_well_sorted, table_says_the_same,
+};
 pub use table::{Problem, clauses_of};
