@@ -1,4 +1,4 @@
-// Long scripts, carried out: benchmarks too, by `./bench scopes` at the top.
+// Long scripts, carried out: benchmarks too, by `./bench scopes` and `./bench terms` at the top.
 
 use crate::tests::outcome;
 use fm_base::Memory;
@@ -66,4 +66,114 @@ fn opens_all_levels(rt: HostRuntime) -> Result<(), Memory> {
     } else {
         Err(Memory)
     }
+}
+
+// What a script of two constants a and b, a formula q, and further commands on a second line comes to.
+fn outcome_behind(alloc: Global, text: &mut Vec<u8>, behind: &[u8]) -> Result<(u64, u64), Memory> {
+    text.extend_from_slice(behind)?;
+    outcome(alloc, text.as_slice())
+}
+
+fn begun(alloc: Global) -> Result<Vec<u8>, Memory> {
+    let mut text = Vec::from_slice(
+        alloc,
+        b"(declare-sort U 0)(declare-const a U)(declare-const b U)(declare-const q Bool)",
+    )?;
+    text.push(b'\n')?;
+    Ok(text)
+}
+
+fn repeat(text: &mut Vec<u8>, part: &[u8], times: usize) -> Result<(), Memory> {
+    for _ in 0..times {
+        text.extend_from_slice(part)?;
+    }
+    Ok(())
+}
+
+fn conjunction(alloc: Global, times: usize) -> Result<(u64, u64), Memory> {
+    let mut text = begun(alloc)?;
+    text.extend_from_slice(b"(assert (and")?;
+    repeat(&mut text, b" (= a b)", times)?;
+    outcome_behind(alloc, &mut text, b"))")
+}
+
+fn is(found: (u64, u64), first: u64, second: u64) -> Result<(), Memory> {
+    if found.0 == first && found.1 == second {
+        Ok(())
+    } else {
+        Err(Memory)
+    }
+}
+
+// An equation has three nodes, so 333,333 of them in a conjunction are a million.
+#[test]
+fn elaborates_a_long_conjunction(rt: HostRuntime) -> Result<(), Memory> {
+    is(conjunction(rt.alloc(), 333_333)?, 0, 1)?;
+    is(conjunction(rt.alloc(), 333_334)?, 17, 1)?;
+    is(conjunction(rt.alloc(), 500_000)?, 17, 1)
+}
+
+#[test]
+fn elaborates_many_assertions(rt: HostRuntime) -> Result<(), Memory> {
+    let mut text = begun(rt.alloc())?;
+    let next =
+        b"(assert (or (= a b) (not (= b a)) (and q (= a a) (distinct a b a)) (=> q (= a b) (not q)) (xor q q)))";
+    repeat(&mut text, next.as_slice(), 100_000)?;
+    is(outcome_behind(rt.alloc(), &mut text, b"")?, 0, 100_000)
+}
+
+// The name `big` for a tree of a million nodes, made by doubling: two `x`, or two and a `q`, beside one node.
+const BIG: &[u8] =
+    b"(assert (! (let ((x (not q))) (let ((x (and x x q))) (let ((x (and x x q))) (let ((x (and x x)))\
+(let ((x (and x x q))) (let ((x (and x x))) (let ((x (and x x))) (let ((x (and x x))) (let ((x (and x x)))\
+(let ((x (and x x q))) (let ((x (and x x))) (let ((x (and x x))) (let ((x (and x x q))) (let ((x (and x x)))\
+(let ((x (and x x))) (let ((x (and x x))) (let ((x (and x x))) (let ((x (and x x))) (and x x q)\
+)))))))))))))))))) :named big))";
+
+#[test]
+fn elaborates_many_lets(rt: HostRuntime) -> Result<(), Memory> {
+    let mut text = begun(rt.alloc())?;
+    text.extend_from_slice(BIG)?;
+    repeat(&mut text, b"(assert (let ((x big) (y big)) q))", 100_000)?;
+    is(outcome_behind(rt.alloc(), &mut text, b"")?, 0, 100_001)?;
+    text.push(b'\n')?;
+    is(
+        outcome_behind(rt.alloc(), &mut text, b"(assert (let ((x big)) (not x)))")?,
+        17,
+        1,
+    )
+}
+
+// Adds a definition of a name by another one.
+fn push_definition(text: &mut Vec<u8>, name: usize, body: usize) -> Result<(), Memory> {
+    text.extend_from_slice(b"(define-fun ")?;
+    push_name(text, b'd', name)?;
+    text.extend_from_slice(b" () Bool ")?;
+    push_name(text, b'd', body)?;
+    text.push(b')')?;
+    Ok(())
+}
+
+// Each name stands for the one before it.
+#[test]
+fn elaborates_a_chain_of_definitions(rt: HostRuntime) -> Result<(), Memory> {
+    let mut text = begun(rt.alloc())?;
+    text.extend_from_slice(b"(define-fun ")?;
+    push_name(&mut text, b'd', 0)?;
+    text.extend_from_slice(b" () Bool q)")?;
+    for number in 0..100_000 {
+        push_definition(&mut text, number + 1, number)?;
+    }
+    text.extend_from_slice(b"(assert ")?;
+    push_name(&mut text, b'd', 100_000)?;
+    is(outcome_behind(rt.alloc(), &mut text, b")")?, 0, 1)
+}
+
+// 12,497,500 pairs: too many nodes.
+#[test]
+fn refuses_a_long_distinct(rt: HostRuntime) -> Result<(), Memory> {
+    let mut text = begun(rt.alloc())?;
+    text.extend_from_slice(b"(assert (distinct")?;
+    repeat(&mut text, b" a b", 2_500)?;
+    is(outcome_behind(rt.alloc(), &mut text, b"))")?, 17, 1)
 }
