@@ -1,3 +1,9 @@
 pub mod Placing
 pub mod Defining
 pub mod Holding
+pub mod SortedTrees
+pub mod SortedTerms
+pub mod SortedCore
+pub mod SortedReads
+pub mod SortedLevels
+pub mod SortedStates

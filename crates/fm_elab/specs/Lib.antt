@@ -5,3 +5,5 @@ pub mod Shown
 pub mod Givens
 pub mod Problems
 pub mod Closed
+pub mod Sorted
+pub mod SortLaw

@@ -9,6 +9,7 @@ mod define;
 mod given;
 #[cfg(test)]
 mod large_tests;
+mod laws;
 mod levels;
 mod problem;
 mod scopes;
@@ -16,5 +17,6 @@ mod sorts;
 #[cfg(test)]
 mod tests;
 
+pub use laws::stacks_stay_sorted;
 pub use problem::{Closed, Problem};
 pub use scopes::Scopes;
