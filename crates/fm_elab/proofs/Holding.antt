@@ -28,10 +28,10 @@ use Rattle.fm_apply.proofs.Growing.{grows_longer, grows_trans, in_force_stays, t
 use Rattle.fm_terms.specs.Elaborate.{Answer, Read, elaborated, items_in, repeated, unless_repeated}
 use Rattle.fm_terms.specs.Scoped.{IsElaborated, names_of}
 use Rattle.fm_terms.specs.declared.elaboration.Elaborated.{Elaborated}
-use Rattle.fm_elab.specs.Givens.{Extends, definition_at, given_at}
+use Rattle.fm_elab.specs.Givens.{Extends, definition_at, given_at, put_function, put_functions}
 use Rattle.fm_elab.specs.Held.{Held, IsWhole, functions_at, held_in, state_of}
 use Rattle.fm_elab.specs.Shown.{names_shown}
-use Rattle.fm_elab.specs.Stacks.{State, closed, fewer_levels, is_barred, is_function_taken, is_named, more_levels, next_function, opened, put_function, put_functions, with_symbol}
+use Rattle.fm_elab.specs.Stacks.{State, closed, fewer_levels, is_barred, is_function_taken, is_named, more_levels, next_function, opened, with_symbol}
 use Rattle.fm_elab.specs.Steps.{Applies, Next, argument_sort, context_at, define_function, defined, definition, each_sort, refused_where, sort_at}
 use Rattle.fm_elab.proofs.Placing.{extends_trans, fewer_at, fewer_in_force, joined_at, length_fewer, length_more, levels_stay, more_at, more_in_force, named_at, put_at, put_in_force}
 

@@ -7,3 +7,5 @@ pub mod SortedCore
 pub mod SortedReads
 pub mod SortedLevels
 pub mod SortedStates
+pub mod FreshNames
+pub mod NamedStates

@@ -12,9 +12,9 @@ use Rattle.fm_apply.specs.Applied.{Function as TheFunction}
 use Rattle.fm_apply.specs.Scoped.{AreInForce, Grows, IsInForce, function_in, functions_in}
 use Rattle.fm_apply.specs.declared.entry.Function.{Function}
 use Rattle.fm_apply.proofs.Growing.{functions_stay}
-use Rattle.fm_elab.specs.Givens.{Extends, put_all}
+use Rattle.fm_elab.specs.Givens.{Extends}
 use Rattle.fm_elab.specs.Held.{functions_at}
-use Rattle.fm_elab.specs.Stacks.{fewer_levels, is_named, more_levels}
+use Rattle.fm_elab.specs.Stacks.{fewer_levels, is_named, more_levels, put_all}
 
 abbrev Named : Type 0
 Named = List ℕ × Function

@@ -60,15 +60,15 @@ put_kept false k ls x e = kept_newest k ls x (not_all (length ls) k e)
 
 -- what holds of all entries
 
-all_in_both : {A : Type 0} (P : A → Type 0) (xs ys : List A) → AllByRecursion P xs → AllByRecursion P ys → AllByRecursion P (xs ++ ys)
+pub all_in_both : {A : Type 0} (P : A → Type 0) (xs ys : List A) → AllByRecursion P xs → AllByRecursion P ys → AllByRecursion P (xs ++ ys)
 all_in_both P [] ys a b = b
 all_in_both P (x ∷ xs) ys a b = (a.0, all_in_both P xs ys a.1 b)
 
-all_in_front : {A : Type 0} (P : A → Type 0) (xs ys : List A) → AllByRecursion P (xs ++ ys) → AllByRecursion P xs
+pub all_in_front : {A : Type 0} (P : A → Type 0) (xs ys : List A) → AllByRecursion P (xs ++ ys) → AllByRecursion P xs
 all_in_front P [] ys a = tt
 all_in_front P (x ∷ xs) ys a = (a.0, all_in_front P xs ys a.1)
 
-all_behind : {A : Type 0} (P : A → Type 0) (xs ys : List A) → AllByRecursion P (xs ++ ys) → AllByRecursion P ys
+pub all_behind : {A : Type 0} (P : A → Type 0) (xs ys : List A) → AllByRecursion P (xs ++ ys) → AllByRecursion P ys
 all_behind P [] ys a = a
 all_behind P (x ∷ xs) ys a = all_behind P xs ys a.1
 
@@ -85,7 +85,7 @@ all_newest P [] x a p = tt
 all_newest P (l ∷ []) x a p = all_in_both P (l ++ x ∷ []) [] (all_in_both P l (x ∷ []) (all_in_front P l [] a) (p, tt)) tt
 all_newest P (l ∷ m ∷ ls) x a p = all_in_both P l (joined (in_newest (m ∷ ls) x)) (all_in_front P l (joined (m ∷ ls)) a) (all_newest P (m ∷ ls) x (all_behind P l (joined (m ∷ ls)) a) p)
 
-all_put : {A : Type 0} (P : A → Type 0) (first : Bool) (ls : List (List A)) (x : A) → AllByRecursion P (joined ls) → P x → AllByRecursion P (joined (put first ls x))
+pub all_put : {A : Type 0} (P : A → Type 0) (first : Bool) (ls : List (List A)) (x : A) → AllByRecursion P (joined ls) → P x → AllByRecursion P (joined (put first ls x))
 all_put P true ls x a p = all_first P ls x a p
 all_put P false ls x a p = all_newest P ls x a p
 
@@ -127,7 +127,7 @@ low_front zero ls a = tt
 low_front (suc k) [] a = tt
 low_front (suc k) (l ∷ ls) a = low_taken k ls a
 
-some_front : {A : Type 0} (first : Bool) (k : ℕ) (ls : List A) → 0 < length ls → reaches first k (length ls) ≡ true → 0 < length (take k ls)
+pub some_front : {A : Type 0} (first : Bool) (k : ℕ) (ls : List A) → 0 < length ls → reaches first k (length ls) ≡ true → 0 < length (take k ls)
 some_front first k [] h e = absurd (omega (arith, h))
 some_front true zero (l ∷ ls) h e = let m = ltb-true 0 0 e in absurd (omega (arith, m))
 some_front false zero (l ∷ ls) h e = let m = leb-true (length (l ∷ ls)) 0 e in absurd (omega (arith, m))

@@ -27,9 +27,9 @@ use Rattle.fm_terms.specs.Elaborate.{Read, elaborated, items_in, repeated, unles
 use Rattle.fm_terms.specs.Scoped.{bound_to_terms, names_of, parameters_from}
 use Rattle.fm_elab.specs.Sorted.{AreAnywhere, AreBelow, AreSortedFrom, IsSortedContext, IsSortedFunction, IsSortedMeaning, IsSortedRead, IsSortedTerm, Known, nothing_known, parameters, takes_no_truth}
 use Rattle.fm_elab.specs.SortLaw.{AreSorts, Front, Includes, IsLastingFormula, IsLastingFunction, IsLow, IsSortedFront, IsSortedProblem, IsSortedState, front, front_signature, ranks_in, take_no_truths}
-use Rattle.fm_elab.specs.Stacks.{State, assertions_in_force, closed, fewer_levels, is_function_taken, is_named, is_sort_taken, level_count, more_levels, next_function, next_sort, opened, put_function, put_functions, signature, start, with_assertion, with_declared_sort, with_definitions, with_sort, with_symbol}
+use Rattle.fm_elab.specs.Stacks.{State, assertions_in_force, closed, fewer_levels, is_function_taken, is_named, is_sort_taken, level_count, more_levels, next_function, next_sort, opened, put_all, signature, start, with_assertion, with_declared_sort, with_definitions, with_sort, with_symbol}
 use Rattle.fm_elab.specs.Steps.{Next, argument_sort, assert_term, asserted, context_at, count_of, declare_function, declare_sort, define_function, define_sort, defined, definition, each_sort, formula_of, found_sort, given_in, has_members, is_logic, is_true_name, pop, push, refused_where, set_logic, set_option, sort_at, sort_by_name, sort_entry, step_of}
-use Rattle.fm_elab.proofs.Placing.{length_fewer, length_more, length_put}
+use Rattle.fm_elab.proofs.Placing.{length_fewer, length_more, length_put, length_put_all}
 use Rattle.fm_elab.proofs.SortedTerms.{name_sorted, wider_sorted}
 use Rattle.fm_elab.proofs.SortedCore.{either, went_on}
 use Rattle.fm_elab.proofs.SortedReads.{all_both, elaborated_sorted}
@@ -37,17 +37,17 @@ use Rattle.fm_elab.proofs.SortedLevels.{all_mapped, all_there, all_with, front_o
 
 -- answers
 
-state_is : (s t : State) → ◌≡◌ {A = Next} (Ok s) (Ok t) → s ≡ t
+pub state_is : (s t : State) → ◌≡◌ {A = Next} (Ok s) (Ok t) → s ≡ t
 state_is s t e = cc e
 
 no_state : (r : Refusal) (t : State) → ◌≡◌ {A = Next} (Err r) (Ok t) → ⊥
 no_state r t e = cc e
 
-passed : (wrong : Bool) (reason : Reason) (at : Place) (next : Next) (t : State) → refused_where wrong reason at next ≡ Ok t → (wrong ≡ false) × (next ≡ Ok t)
+pub passed : (wrong : Bool) (reason : Reason) (at : Place) (next : Next) (t : State) → refused_where wrong reason at next ≡ Ok t → (wrong ≡ false) × (next ≡ Ok t)
 passed true reason at next t e = absurd (no_state (refused reason at) t e)
 passed false reason at next t e = (refl, e)
 
-not_repeated : (o : Option Place) (a : Next) (t : State) → unless_repeated o a ≡ Ok t → a ≡ Ok t
+pub not_repeated : (o : Option Place) (a : Next) (t : State) → unless_repeated o a ≡ Ok t → a ≡ Ok t
 not_repeated None a t h = h
 not_repeated (Some at) a t h = cc h
 
@@ -333,23 +333,9 @@ symbol_sorted s name args ty h r t =
 
 -- definitions
 
-put_long : (b first : Bool) (ls : List (List Function)) (f : Function) → length (cond b ls (put first ls f)) ≡ length ls
-put_long true first ls f = refl
-put_long false first ls f = length_put first ls f
-
-functions_long : (first : Bool) (ls : List (List Function)) (fs : List Function) → length (put_functions first ls fs) ≡ length ls
-functions_long first ls [] = refl
-functions_long first ls (f ∷ fs) = functions_long first (put_function first ls f) fs ∙ put_long (is_named f.name (joined ls)) first ls f
-
-one_with : (P : Function → Type 0) (b first : Bool) (k n : ℕ) (ls : List (List Function)) (f : Function) → length ls ≡ n → AllByRecursion P (joined (take k ls)) → (reaches first k n ≡ true → P f) → AllByRecursion P (joined (take k (cond b ls (put first ls f))))
-one_with P true first k n ls f l a p = a
-one_with P false first k n ls f l a p = all_with P first k n ls f l a p
-
-functions_with : (P : Function → Type 0) (first : Bool) (k n : ℕ) (ls : List (List Function)) (fs : List Function) → length ls ≡ n → AllByRecursion P (joined (take k ls)) → (reaches first k n ≡ true → AllByRecursion P fs) → AllByRecursion P (joined (take k (put_functions first ls fs)))
+functions_with : (P : Function → Type 0) (first : Bool) (k n : ℕ) (ls : List (List Function)) (fs : List Function) → length ls ≡ n → AllByRecursion P (joined (take k ls)) → (reaches first k n ≡ true → AllByRecursion P fs) → AllByRecursion P (joined (take k (put_all first ls fs)))
 functions_with P first k n ls [] l a p = a
-functions_with P first k n ls (f ∷ fs) l a p =
-    let b = is_named f.name (joined ls) in
-    functions_with P first k n (put_function first ls f) fs (put_long b first ls f ∙ l) (one_with P b first k n ls f l a (λ e. (p e).0)) (λ e. (p e).1)
+functions_with P first k n ls (f ∷ fs) l a p = functions_with P first k n (put first ls f) fs (length_put first ls f ∙ l) (all_with P first k n ls f l a (λ e. (p e).0)) (λ e. (p e).1)
 
 definitions_front : (s : State) (k : ℕ) (fs : List Function) → IsSortedState s → AllByRecursion (IsLastingFunction (signature s)) fs → IsSortedFront (front k (with_definitions s fs))
 definitions_front s k fs h a =
@@ -370,7 +356,7 @@ definitions_sorted s fs h a = record {
   declared_sorts = h.declared_sorts;
   sorts = h.sorts;
   symbols = h.symbols;
-  functions = functions_long s.global s.functions fs ∙ h.functions;
+  functions = length_put_all s.global s.functions fs ∙ h.functions;
   low_sorts = h.low_sorts;
   low_symbols = h.low_symbols;
   begun = λ e. absurd (false≢true (sym e));
@@ -402,7 +388,7 @@ assertion_sorted s fs f h a c =
       declared_sorts = h.declared_sorts ∙ sym long;
       sorts = h.sorts ∙ sym long;
       symbols = h.symbols ∙ sym long;
-      functions = functions_long false s.functions fs ∙ (h.functions ∙ sym long);
+      functions = length_put_all false s.functions fs ∙ (h.functions ∙ sym long);
       low_sorts = h.low_sorts;
       low_symbols = h.low_symbols;
       begun = λ e. absurd (false≢true (sym e));
@@ -411,7 +397,7 @@ assertion_sorted s fs f h a c =
 
 -- levels opened and closed
 
-opened_front : (s : State) (k n : ℕ) → front k (opened s n) ≡ front k s
+pub opened_front : (s : State) (k n : ℕ) → front k (opened s n) ≡ front k s
 opened_front s k n = λ i. record {
   declared_sorts = front_of_more k n s.declared_sorts i;
   sorts = front_of_more k n s.sorts i;
@@ -420,10 +406,10 @@ opened_front s k n = λ i. record {
   assertions = front_of_more k n s.assertions i;
 }
 
-more_long : {A B : Type 0} (n : ℕ) (ls : List (List A)) (as' : List (List B)) → length ls ≡ length as' → length (more_levels n ls) ≡ length (more_levels n as')
+pub more_long : {A B : Type 0} (n : ℕ) (ls : List (List A)) (as' : List (List B)) → length ls ≡ length as' → length (more_levels n ls) ≡ length (more_levels n as')
 more_long n ls as' e = length_more n ls ∙ ap (λ (c : ℕ). c + n) e ∙ sym (length_more n as')
 
-fewer_long : {A B : Type 0} (n : ℕ) (ls : List (List A)) (as' : List (List B)) → length ls ≡ length as' → length (fewer_levels n ls) ≡ length (fewer_levels n as')
+pub fewer_long : {A B : Type 0} (n : ℕ) (ls : List (List A)) (as' : List (List B)) → length ls ≡ length as' → length (fewer_levels n ls) ≡ length (fewer_levels n as')
 fewer_long n ls as' e = length_fewer n ls ∙ ap (λ (c : ℕ). c - n) e ∙ sym (length_fewer n as')
 
 pub opened_sorted : (s : State) (n : ℕ) → IsSortedState s → IsSortedState (opened s n)

@@ -7,3 +7,5 @@ pub mod Problems
 pub mod Closed
 pub mod Sorted
 pub mod SortLaw
+pub mod Fresh
+pub mod NameLaw

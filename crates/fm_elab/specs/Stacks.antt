@@ -88,23 +88,20 @@ with_symbol s name args result =
       begun = true;
     }
 
--- one more function, unless its name is there: a name has at most one entry
-abbrev pub put_function : Bool → List (List Function) → Function → List (List Function)
-put_function first ls f = cond (is_named f.name (joined ls)) ls (put first ls f)
-
-abbrev pub put_functions : Bool → List (List Function) → List Function → List (List Function)
-put_functions first ls [] = ls
-put_functions first ls (f ∷ fs) = put_functions first (put_function first ls f) fs
+-- entries that are put in one level, one after the other
+abbrev pub put_all : {A : Type 0} → Bool → List (List A) → List A → List (List A)
+put_all first ls [] = ls
+put_all first ls (x ∷ xs) = put_all first (put first ls x) xs
 
 -- definitions, and the names that were given in the command
 abbrev pub with_definitions : State → List Function → State
-with_definitions s fs = record s { functions = put_functions s.global s.functions fs; begun = true }
+with_definitions s fs = record s { functions = put_all s.global s.functions fs; begun = true }
 
 -- an assertion, and the names that were given in it, in the newest level
 abbrev pub with_assertion : State → List Function → Formula → State
 with_assertion s fs f =
     record s {
-      functions = put_functions false s.functions fs;
+      functions = put_all false s.functions fs;
       assertions = in_newest s.assertions f;
       begun = true;
     }

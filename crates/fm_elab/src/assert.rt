@@ -3,10 +3,9 @@ ghost use Rattle.fm_sexp.specs.Items.{spans_within};
 ghost use Rattle.fm_arena.specs.Meanings.{kind_at, terms_of};
 ghost use Rattle.fm_levels.specs.Levels.{in_newest, joined};
 ghost use Rattle.fm_apply.specs.Scoped.{AreBelow, AreInForce, Grows, number_term};
-ghost use Rattle.fm_elab.specs.Givens.{DefinesAll, Extends, given_at, read_in};
+ghost use Rattle.fm_elab.specs.Givens.{DefinesAll, Extends, given_at, new_asserted, read_in, with_new_assertion};
 ghost use Rattle.fm_elab.specs.Held.{state_of};
-ghost use Rattle.fm_elab.specs.Stacks.{with_assertion};
-ghost use Rattle.fm_elab.specs.Steps.{Applies, assert_term, asserted, formula_of};
+ghost use Rattle.fm_elab.specs.Steps.{Applies, assert_term, formula_of};
 
 use crate::given::add_given;
 use crate::scopes::Scopes;
@@ -48,7 +47,7 @@ impl<'a> Scopes<'a> {
         requires number { number < length (terms_of self.old.entries) }
         requires given { AreBelow (length (terms_of self.old.entries)) given }
         requires truth { kind_at (terms_of self.old.entries) number ≡ true }
-        ensures added { OnOk result (state_of self.new ≡ with_assertion (state_of self.old)
+        ensures added { OnOk result (state_of self.new ≡ with_new_assertion (state_of self.old)
             (given_at self.old.entries given.entry) (formula_of (number_term self.old.entries number))) }
         ensures err { OnErr result (state_of self.new ≡ state_of self.old) }
     {
@@ -78,7 +77,7 @@ impl<'a> Scopes<'a> {
         requires number { term.number < length (terms_of self.old.entries) }
         requires given { AreBelow (length (terms_of self.old.entries)) term.given }
         ensures { (low : ℕ) → Applies result (state_of self.old)
-            (asserted (state_of self.old) item.now (read_in self.old.entries low term.entry)) (state_of self.new) }
+            (new_asserted (state_of self.old) item.now (read_in self.old.entries low term.entry)) (state_of self.new) }
     {
         let Elaborated { number, given } = term;
         if !self.arena.ty(number).is_bool() {

@@ -6,10 +6,9 @@ ghost use Rattle.fm_arena.specs.Meanings.{terms_of};
 ghost use Rattle.fm_apply.specs.Scoped.{AreBelow};
 ghost use Rattle.fm_terms.specs.Elaborate.{elaborated};
 ghost use Rattle.fm_terms.specs.Scoped.{ArePairsWithin, IsElaborated, LeavesGiven, shown_pairs};
-ghost use Rattle.fm_elab.specs.Givens.{definitions_at, read_in};
+ghost use Rattle.fm_elab.specs.Givens.{definitions_at, new_defined, read_in, with_new_definitions};
 ghost use Rattle.fm_elab.specs.Held.{state_of};
-ghost use Rattle.fm_elab.specs.Stacks.{with_definitions};
-ghost use Rattle.fm_elab.specs.Steps.{Applies, context_at, define_function, defined};
+ghost use Rattle.fm_elab.specs.Steps.{Applies, context_at, define_function};
 
 use crate::given::add_definition;
 use crate::scopes::Scopes;
@@ -62,7 +61,7 @@ impl<'a> Scopes<'a> {
     ) -> Result<(), Memory>
         requires body { body < length (terms_of self.old.entries) }
         requires given { AreBelow (length (terms_of self.old.entries)) given }
-        ensures added { OnOk result (state_of self.new ≡ with_definitions (state_of self.old)
+        ensures added { OnOk result (state_of self.new ≡ with_new_definitions (state_of self.old)
             (definitions_at self.old.entries given.entry name.now args body)) }
         ensures err { OnErr result (state_of self.new ≡ state_of self.old) }
     {
@@ -100,7 +99,7 @@ impl<'a> Scopes<'a> {
         requires number { term.number < length (terms_of self.old.entries) }
         requires given { AreBelow (length (terms_of self.old.entries)) term.given }
         ensures { (low : ℕ) → Applies result (state_of self.old)
-            (defined (state_of self.old) (name_shown name.entry) args ty body.now (read_in self.old.entries low term.entry))
+            (new_defined (state_of self.old) (name_shown name.entry) args ty body.now (read_in self.old.entries low term.entry))
             (state_of self.new) }
     {
         let Elaborated { number, given } = term;

@@ -17,6 +17,6 @@ mod sorts;
 #[cfg(test)]
 mod tests;
 
-pub use laws::stacks_stay_sorted;
+pub use laws::{names_stay_distinct, stacks_stay_sorted};
 pub use problem::{Closed, Problem};
 pub use scopes::Scopes;

@@ -1,8 +1,7 @@
 use Rattle.std.proofs.Common.{List, ap, sym, ◌∙◌}
 use Rattle.fm_base.specs.declared.signature.Ty.{Ty}
-use Rattle.fm_elab.specs.Givens.{definition_at, given_at}
+use Rattle.fm_elab.specs.Givens.{definition_at, given_at, put_function, put_functions}
 use Rattle.fm_elab.specs.Held.{functions_at}
-use Rattle.fm_elab.specs.Stacks.{put_function, put_functions}
 use Rattle.fm_elab.proofs.Holding.{body_below, given_next, given_none}
 use Rattle.fm_elab.proofs.Placing.{extends_trans}
 use Rattle.fm_elab.proofs.given.add_given.Goals as goal

@@ -2,9 +2,8 @@ use Rattle.std.proofs.Common.{drop, ◌≡◌}
 use Rattle.fm_arena.specs.Meanings.{terms_of}
 use Rattle.fm_levels.specs.Levels.{joined}
 use Rattle.fm_apply.specs.Scoped.{AreInForce, Grows}
-use Rattle.fm_elab.specs.Givens.{Extends, given_at}
+use Rattle.fm_elab.specs.Givens.{Extends, given_at, put_functions}
 use Rattle.fm_elab.specs.Held.{functions_at}
-use Rattle.fm_elab.specs.Stacks.{put_functions}
 use Rattle.fm_elab.proofs.given.add_given.Given as goal
 
 abbrev pub invariant-loop-place : goal.invariant-loop-place
