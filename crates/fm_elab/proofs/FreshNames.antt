@@ -20,7 +20,8 @@ use Rattle.fm_apply.specs.Applied.{Context, Function, Named, and_then, constant_
 use Rattle.fm_terms.specs.Elaborate.{Answer, Attribute, Go, Read, Reads, all_at, annotated_at, annotated_with, application_at, applied_to, attribute_at, attributes_at, attributes_of, bound_to, by_bound, by_head, closes_at, elaborated, is_list, is_word, items_in, let_at, let_over, let_with, list_at, name_in, named_at, nesting, newest_from, none_read, outside, pairs_in, quantified_at, quantifier_at, quantifier_over, quantifier_with, read_at, read_of, repeated, term_at, term_step, unless_repeated, variables_at, variables_named, with_bound, with_name, with_read, word_at}
 use Rattle.fm_elab.specs.Fresh.{AreFresh, AreNew}
 use Rattle.fm_elab.specs.Givens.{new_asserted, new_defined, put_function, put_functions}
-use Rattle.fm_elab.specs.Stacks.{State, is_barred, is_function_taken, is_named, put_all}
+use Rattle.fm_elab.specs.Sizes.{is_large}
+use Rattle.fm_elab.specs.Stacks.{State, is_barred, is_function_taken, is_named, put_all, signature}
 use Rattle.fm_elab.specs.Steps.{Next, assert_term, asserted, context_at, defined, definition, formula_of, given_in, refused_where}
 use Rattle.fm_elab.proofs.SortedCore.{either, no_answer, went_on}
 use Rattle.fm_elab.proofs.SortedLevels.{all_put}
@@ -253,10 +254,11 @@ defined_is_new name fs (n ∷ ns) f e k a = (a.1, defined_is_new name (fs ++ fun
 
 -- so commands put them all in
 
-asserted_same : (s : State) (x : Sexp) (r : Read) → AreFresh None (joined s.functions) r.named → new_asserted s x r ≡ asserted s x r
-asserted_same s x r f =
+asserted_same : (s : State) (at : Place) (x : Sexp) (r : Read) → AreFresh None (joined s.functions) r.named → new_asserted s at x r ≡ asserted s at x r
+asserted_same s at x r f =
     ap (λ (ls : List (List Function)). refused_where (not (is_bool r.term.ty)) Reason.SortMismatch (place_of_item x)
-    (Ok (record s { functions = ls; assertions = in_newest s.assertions (formula_of r.term); begun = true }))) (new_are_put false s.functions (given_in r) (given_are_new None (joined s.functions) r.named f))
+    (refused_where (is_large (signature s) (formula_of r.term)) Reason.TooLarge at
+    (Ok (record s { functions = ls; assertions = in_newest s.assertions (formula_of r.term); begun = true })))) (new_are_put false s.functions (given_in r) (given_are_new None (joined s.functions) r.named f))
 
 defined_same : (s : State) (n : Name) (args : List Ty) (ty : Ty) (body : Sexp) (r : Read) → is_function_taken s n.bytes ≡ false → AreFresh (Some n.bytes) (joined s.functions) r.named → new_defined s n args ty body r ≡ defined s n args ty body r
 defined_same s n args ty body r t f =
@@ -267,9 +269,9 @@ defined_same s n args ty body r t f =
 same_after : (e : Answer) (r : Read) (go other : Read → Next) → e ≡ Ok r → go r ≡ other r → and_then e go ≡ and_then e other
 same_after e r go other k h = ap (λ (a : Answer). and_then a go) k ∙ h ∙ sym (ap (λ (a : Answer). and_then a other) k)
 
-pub assert_goes : (text : List ℕ) (s : State) (at : Place) (x : Sexp) (r : Read) → elaborated (context_at text s at None true [] []) x ≡ Ok r → and_then (elaborated (context_at text s at None true [] []) x) (new_asserted s x) ≡ assert_term text s at x
+pub assert_goes : (text : List ℕ) (s : State) (at : Place) (x : Sexp) (r : Read) → elaborated (context_at text s at None true [] []) x ≡ Ok r → and_then (elaborated (context_at text s at None true [] []) x) (new_asserted s at x) ≡ assert_term text s at x
 assert_goes text s at x r e =
-    same_after (elaborated (context_at text s at None true [] []) x) r (new_asserted s x) (asserted s x) e (asserted_same s x r (elaborated_fresh (context_at text s at None true [] []) x r e))
+    same_after (elaborated (context_at text s at None true [] []) x) r (new_asserted s at x) (asserted s at x) e (asserted_same s at x r (elaborated_fresh (context_at text s at None true [] []) x r e))
 
 pub definition_goes : (text : List ℕ) (s : State) (at : Place) (n : Name) (names : List (List ℕ)) (args : List Ty) (ty : Ty) (body : Sexp) (r : Read) → is_function_taken s n.bytes ≡ false → elaborated (context_at text s at (Some n.bytes) true names args) body ≡ Ok r
     → and_then (elaborated (context_at text s at (Some n.bytes) true names args) body) (new_defined s n args ty body) ≡ and_then (elaborated (context_at text s at (Some n.bytes) true names args) body) (defined s n args ty body)

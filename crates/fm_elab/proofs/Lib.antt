@@ -9,3 +9,4 @@ pub mod SortedLevels
 pub mod SortedStates
 pub mod FreshNames
 pub mod NamedStates
+pub mod Alike

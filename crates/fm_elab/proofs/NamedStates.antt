@@ -24,7 +24,8 @@ use Rattle.fm_terms.specs.Scoped.{names_of}
 use Rattle.fm_elab.specs.Fresh.{AreNew}
 use Rattle.fm_elab.specs.NameLaw.{AreNamesDistinct, IsNamedState, IsNew, functions_named, sorts_named, symbols_named}
 use Rattle.fm_elab.specs.SortLaw.{Front, front}
-use Rattle.fm_elab.specs.Stacks.{State, closed, is_barred, is_function_taken, is_named, is_sort_taken, level_count, next_function, next_sort, opened, put_all, sort_names, start, symbol_names, with_assertion, with_declared_sort, with_definitions, with_sort, with_symbol}
+use Rattle.fm_elab.specs.Sizes.{is_large}
+use Rattle.fm_elab.specs.Stacks.{State, closed, is_barred, is_function_taken, is_named, is_sort_taken, level_count, next_function, next_sort, opened, put_all, signature, sort_names, start, symbol_names, with_assertion, with_declared_sort, with_definitions, with_sort, with_symbol}
 use Rattle.fm_elab.specs.Steps.{Next, argument_sort, assert_term, asserted, context_at, count_of, declare_function, declare_sort, define_function, define_sort, defined, definition, each_sort, formula_of, given_in, has_members, is_logic, is_true_name, pop, push, refused_where, set_logic, set_option, sort_at, step_of}
 use Rattle.fm_elab.proofs.FreshNames.{apart_from, defined_is_new, elaborated_fresh, given_are_new, named_last, neither}
 use Rattle.fm_elab.proofs.Placing.{length_fewer, length_more, length_put, length_put_all}
@@ -407,9 +408,12 @@ define_function_names text s t at n params x body h e =
 assert_names : (text : List ℕ) (s t : State) (at : Place) (x : Sexp) → IsNamedState s → assert_term text s at x ≡ Ok t → IsNamedState t
 assert_names text s t at x h e =
     let c = context_at text s at None true [] [] in
-    let w = went_on (elaborated c x) (asserted s x) t e in
-    let p = passed (not (is_bool w.0.term.ty)) Reason.SortMismatch (place_of_item x) (Ok (with_assertion s (given_in w.0) (formula_of w.0.term))) t w.2 in
-    subst IsNamedState (state_is (with_assertion s (given_in w.0) (formula_of w.0.term)) t p.1)
+    let w = went_on (elaborated c x) (asserted s at x) t e in
+    let next : Next = Ok (with_assertion s (given_in w.0) (formula_of w.0.term)) in
+    let large = is_large (signature s) (formula_of w.0.term) in
+    let p = passed (not (is_bool w.0.term.ty)) Reason.SortMismatch (place_of_item x) (refused_where large Reason.TooLarge at next) t w.2 in
+    let q = passed large Reason.TooLarge at next t p.1 in
+    subst IsNamedState (state_is (with_assertion s (given_in w.0) (formula_of w.0.term)) t q.1)
     (assertion_named s (given_in w.0) (formula_of w.0.term) h (given_are_new None (joined s.functions) w.0.named (elaborated_fresh c x w.0 w.1)))
 
 push_names : (s t : State) (at : Place) (count : ℕ) → IsNamedState s → push s at count ≡ Ok t → IsNamedState t

@@ -27,6 +27,7 @@ use Rattle.fm_terms.specs.Elaborate.{Read, elaborated, items_in, repeated, unles
 use Rattle.fm_terms.specs.Scoped.{bound_to_terms, names_of, parameters_from}
 use Rattle.fm_elab.specs.Sorted.{AreAnywhere, AreBelow, AreSortedFrom, IsSortedContext, IsSortedFunction, IsSortedMeaning, IsSortedRead, IsSortedTerm, Known, nothing_known, parameters, takes_no_truth}
 use Rattle.fm_elab.specs.SortLaw.{AreSorts, Front, Includes, IsLastingFormula, IsLastingFunction, IsLow, IsSortedFront, IsSortedProblem, IsSortedState, front, front_signature, ranks_in, take_no_truths}
+use Rattle.fm_elab.specs.Sizes.{is_large}
 use Rattle.fm_elab.specs.Stacks.{State, assertions_in_force, closed, fewer_levels, is_function_taken, is_named, is_sort_taken, level_count, more_levels, next_function, next_sort, opened, put_all, signature, start, with_assertion, with_declared_sort, with_definitions, with_sort, with_symbol}
 use Rattle.fm_elab.specs.Steps.{Next, argument_sort, assert_term, asserted, context_at, count_of, declare_function, declare_sort, define_function, define_sort, defined, definition, each_sort, formula_of, found_sort, given_in, has_members, is_logic, is_true_name, pop, push, refused_where, set_logic, set_option, sort_at, sort_by_name, sort_entry, step_of}
 use Rattle.fm_elab.proofs.Placing.{length_fewer, length_more, length_put, length_put_all}
@@ -656,10 +657,13 @@ truth_type (Ty.Of s) e = cc e
 
 assert_stays : (text : List ℕ) (s t : State) (at : Place) (x : Sexp) → IsSortedState s → assert_term text s at x ≡ Ok t → IsSortedState t
 assert_stays text s t at x h e =
-    let w = went_on (elaborated (context_at text s at None true [] []) x) (asserted s x) t e in
-    let p = passed (not (is_bool w.0.term.ty)) Reason.SortMismatch (place_of_item x) (Ok (with_assertion s (given_in w.0) (formula_of w.0.term))) t w.2 in
+    let w = went_on (elaborated (context_at text s at None true [] []) x) (asserted s at x) t e in
+    let next : Next = Ok (with_assertion s (given_in w.0) (formula_of w.0.term)) in
+    let large = is_large (signature s) (formula_of w.0.term) in
+    let p = passed (not (is_bool w.0.term.ty)) Reason.SortMismatch (place_of_item x) (refused_where large Reason.TooLarge at next) t w.2 in
+    let q = passed large Reason.TooLarge at next t p.1 in
     let truth = truth_type w.0.term.ty p.0 in
-    subst IsSortedState (state_is (with_assertion s (given_in w.0) (formula_of w.0.term)) t p.1)
+    subst IsSortedState (state_is (with_assertion s (given_in w.0) (formula_of w.0.term)) t q.1)
     (assertion_sorted s (given_in w.0) (formula_of w.0.term) h (names_last text s at None true [] [] x w.0 h w.1)
     (λ big i.
     let m : IsSortedMeaning (parameters []) big Ty.Bool w.0.term.meaning = subst (λ (ty : Ty). IsSortedMeaning (parameters []) big ty w.0.term.meaning) truth (term_under text s at None true [] [] x w.0 big h w.1 i) in

@@ -2,6 +2,7 @@
 use Rattle.std.specs.Prelude.{◌≡◌, ℕ, Bool, true, false, not, cond, List, [], ◌∷◌, ◌++◌, map, Ok}
 use Rattle.fm_base.specs.Truth.{is_bool}
 use Rattle.fm_base.specs.declared.formula.Formula.{Formula}
+use Rattle.fm_base.specs.declared.refusal.Place.{Place}
 use Rattle.fm_base.specs.declared.refusal.Reason.{Reason}
 use Rattle.fm_base.specs.declared.signature.Ty.{Ty}
 use Rattle.fm_sexp.specs.declared.items.Sexp.{Sexp}
@@ -16,7 +17,8 @@ use Rattle.fm_apply.specs.declared.entry.Function.{Function}
 use Rattle.fm_terms.specs.Elaborate.{Read, read_of}
 use Rattle.fm_terms.specs.declared.elaboration.Elaborated.{Elaborated}
 use Rattle.fm_elab.specs.Held.{functions_at}
-use Rattle.fm_elab.specs.Stacks.{State, is_named, put_all}
+use Rattle.fm_elab.specs.Sizes.{is_large}
+use Rattle.fm_elab.specs.Stacks.{State, is_named, put_all, signature}
 use Rattle.fm_elab.specs.Steps.{Next, definition, formula_of, given_in, refused_where}
 
 -- one more function, unless its name is there
@@ -76,7 +78,8 @@ new_defined s n args ty body r =
     refused_where (not (same_type r.term.ty ty)) Reason.SortMismatch (place_of_item body)
     (Ok (with_new_definitions s (given_in r ++ definition n.bytes args r.term ∷ [])))
 
-abbrev pub new_asserted : State → Sexp → Read → Next
-new_asserted s x r =
+abbrev pub new_asserted : State → Place → Sexp → Read → Next
+new_asserted s at x r =
     refused_where (not (is_bool r.term.ty)) Reason.SortMismatch (place_of_item x)
-    (Ok (with_new_assertion s (given_in r) (formula_of r.term)))
+    (refused_where (is_large (signature s) (formula_of r.term)) Reason.TooLarge at
+    (Ok (with_new_assertion s (given_in r) (formula_of r.term))))

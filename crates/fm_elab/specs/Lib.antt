@@ -1,4 +1,5 @@
 pub mod Stacks
+pub mod Sizes
 pub mod Steps
 pub mod Held
 pub mod Shown

@@ -19,7 +19,8 @@ use Rattle.fm_levels.specs.Tables.{looked_up}
 use Rattle.fm_apply.specs.Applied.{Context, Function, Sort, Stands, and_then, function_by, refused, same_type}
 use Rattle.fm_terms.specs.Elaborate.{Read, elaborated, items_in, repeated, unless_repeated}
 use Rattle.fm_terms.specs.Scoped.{bound_to_terms, names_of, parameters_from}
-use Rattle.fm_elab.specs.Stacks.{State, closed, is_function_taken, is_sort_taken, level_count, opened, with_assertion, with_declared_sort, with_definitions, with_sort, with_symbol}
+use Rattle.fm_elab.specs.Sizes.{is_large}
+use Rattle.fm_elab.specs.Stacks.{State, closed, is_function_taken, is_sort_taken, level_count, opened, signature, with_assertion, with_declared_sort, with_definitions, with_sort, with_symbol}
 
 abbrev pub Next : Type 0
 Next = Result State Refusal
@@ -119,13 +120,15 @@ define_function text s at n params x body =
 abbrev pub formula_of : Term → Formula
 formula_of t = formula_in (t.meaning no_names 0)
 
-abbrev pub asserted : State → Sexp → Read → Next
-asserted s x r =
+-- of a Bool, and not too large
+abbrev pub asserted : State → Place → Sexp → Read → Next
+asserted s at x r =
     refused_where (not (is_bool r.term.ty)) Reason.SortMismatch (place_of_item x)
-    (Ok (with_assertion s (given_in r) (formula_of r.term)))
+    (refused_where (is_large (signature s) (formula_of r.term)) Reason.TooLarge at
+    (Ok (with_assertion s (given_in r) (formula_of r.term))))
 
 abbrev pub assert_term : List ℕ → State → Place → Sexp → Next
-assert_term text s at x = and_then (elaborated (context_at text s at None true [] []) x) (asserted s x)
+assert_term text s at x = and_then (elaborated (context_at text s at None true [] []) x) (asserted s at x)
 
 -- Levels: at most 65,536 above the first, which is never closed.
 

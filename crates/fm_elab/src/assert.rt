@@ -1,14 +1,17 @@
-ghost use Rattle.std.specs.Prelude.{◌≡◌, ◌<◌, ℕ, false, true, length, OnErr, OnOk};
+ghost use Rattle.std.specs.Prelude.{◌≡◌, ◌<◌, ℕ, false, true, length, IfOk, OnErr, OnOk};
 ghost use Rattle.fm_sexp.specs.Items.{spans_within};
-ghost use Rattle.fm_arena.specs.Meanings.{kind_at, terms_of};
+ghost use Rattle.fm_arena.specs.Meanings.{terms_of};
 ghost use Rattle.fm_levels.specs.Levels.{in_newest, joined};
-ghost use Rattle.fm_apply.specs.Scoped.{AreBelow, AreInForce, Grows, number_term};
+ghost use Rattle.fm_apply.specs.Scoped.{AreBelow, AreInForce, Grows};
 ghost use Rattle.fm_elab.specs.Givens.{DefinesAll, Extends, given_at, new_asserted, read_in, with_new_assertion};
 ghost use Rattle.fm_elab.specs.Held.{state_of};
-ghost use Rattle.fm_elab.specs.Steps.{Applies, assert_term, formula_of};
+ghost use Rattle.fm_elab.specs.Sizes.{is_large as is_large_of};
+ghost use Rattle.fm_elab.specs.Stacks.{signature};
+ghost use Rattle.fm_elab.specs.Steps.{Applies, assert_term};
 
 use crate::given::add_given;
 use crate::scopes::Scopes;
+use crate::sizes::is_large;
 use fm_apply::{Function, refuse};
 use fm_arena::Arena;
 use fm_base::{Fail, Formula, Memory, Place, Reason};
@@ -42,16 +45,23 @@ fn add_all<'a>(
 }
 
 impl<'a> Scopes<'a> {
+    // Whether an assertion is too large.
+    fn is_large(&self, formula: &Formula) -> Result<bool, Memory>
+        ensures { IfOk result (λ b. b ≡ is_large_of (signature (state_of self.now)) formula.now) }
+    {
+        match self.symbols.count() {
+            None => Err(Memory),
+            Some(declared) => is_large(self.alloc, formula, declared),
+        }
+    }
+
     // Adds an assertion and the names that were given in it, or nothing.
-    fn add_assertion(&mut self, number: usize, given: Table<'a, usize>) -> Result<(), Memory>
-        requires number { number < length (terms_of self.old.entries) }
+    fn add_assertion(&mut self, formula: Formula, given: Table<'a, usize>) -> Result<(), Memory>
         requires given { AreBelow (length (terms_of self.old.entries)) given }
-        requires truth { kind_at (terms_of self.old.entries) number ≡ true }
         ensures added { OnOk result (state_of self.new ≡ with_new_assertion (state_of self.old)
-            (given_at self.old.entries given.entry) (formula_of (number_term self.old.entries number))) }
+            (given_at self.old.entries given.entry) formula) }
         ensures err { OnErr result (state_of self.new ≡ state_of self.old) }
     {
-        let formula = self.arena.formula(self.alloc, number)?;
         let count = self.functions.count_in(false);
         match add_all(
             self.alloc,
@@ -72,18 +82,26 @@ impl<'a> Scopes<'a> {
         }
     }
 
-    // Adds an assertion whose term was elaborated, where the term is a formula.
-    fn asserted(&mut self, item: &Sexp, term: Elaborated<'a>) -> Result<(), Fail>
+    // Adds an assertion whose term was elaborated, where the term is a formula and isn't too large.
+    fn asserted(&mut self, at: Place, item: &Sexp, term: Elaborated<'a>) -> Result<(), Fail>
         requires number { term.number < length (terms_of self.old.entries) }
         requires given { AreBelow (length (terms_of self.old.entries)) term.given }
         ensures { (low : ℕ) → Applies result (state_of self.old)
-            (new_asserted (state_of self.old) item.now (read_in self.old.entries low term.entry)) (state_of self.new) }
+            (new_asserted (state_of self.old) at item.now (read_in self.old.entries low term.entry)) (state_of self.new) }
     {
         let Elaborated { number, given } = term;
         if !self.arena.ty(number).is_bool() {
             return Err(refuse(Reason::SortMismatch, place(item)));
         }
-        match self.add_assertion(number, given) {
+        let Ok(formula) = self.arena.formula(self.alloc, number) else {
+            return Err(Fail::Memory);
+        };
+        match self.is_large(&formula) {
+            Err(_) => return Err(Fail::Memory),
+            Ok(true) => return Err(refuse(Reason::TooLarge, at)),
+            Ok(false) => {}
+        }
+        match self.add_assertion(formula, given) {
             Err(_) => Err(Fail::Memory),
             Ok(()) => Ok(()),
         }
@@ -98,7 +116,7 @@ impl<'a> Scopes<'a> {
         let names = NameSet::new(self.alloc);
         match self.elaborate(text, at, None, true, names, &[], item) {
             Err(fail) => Err(fail),
-            Ok(term) => self.asserted(item, term),
+            Ok(term) => self.asserted(at, item, term),
         }
     }
 }

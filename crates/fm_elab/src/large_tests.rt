@@ -177,3 +177,51 @@ fn refuses_a_long_distinct(rt: HostRuntime) -> Result<(), Memory> {
     repeat(&mut text, b" a b", 2_500)?;
     is(outcome_behind(rt.alloc(), &mut text, b"))")?, 17, 1)
 }
+
+// `p = (p = .. p)` with so many equivalences.
+fn push_nested(text: &mut Vec<u8>, count: usize) -> Result<(), Memory> {
+    for _ in 0..count {
+        text.extend_from_slice(b"(= p ")?;
+    }
+    text.push(b'p')?;
+    for _ in 0..count {
+        text.push(b')')?;
+    }
+    Ok(())
+}
+
+// An assertion of nested equivalences.
+fn nested_assertion(alloc: Global, count: usize) -> Result<Vec<u8>, Memory> {
+    let mut text = Vec::new(alloc);
+    text.extend_from_slice(b"(declare-const p Bool)(assert ")?;
+    push_nested(&mut text, count)?;
+    text.push(b')')?;
+    Ok(text)
+}
+
+// A term that turns on nested equivalences: they stand twice in the definition of the symbol for it.
+fn nested_condition(alloc: Global, count: usize) -> Result<Vec<u8>, Memory> {
+    let mut text = Vec::new(alloc);
+    text.extend_from_slice(b"(declare-sort U 0)(declare-const c U)(declare-const p Bool)")?;
+    text.extend_from_slice(b"(assert (= c (ite ")?;
+    push_nested(&mut text, count)?;
+    text.extend_from_slice(b" c c)))")?;
+    Ok(text)
+}
+
+// A normal form with n equivalences has 6 * 2^n - 5 nodes, and a definition over it twice as many and 9.
+#[test]
+fn refuses_large_normal_forms(rt: HostRuntime) -> Result<(), Memory> {
+    let alloc = rt.alloc();
+    let fits = outcome(alloc, nested_assertion(alloc, 17)?.as_slice())?;
+    let large = outcome(alloc, nested_assertion(alloc, 18)?.as_slice())?;
+    let defined = outcome(alloc, nested_condition(alloc, 16)?.as_slice())?;
+    let large_definition = outcome(alloc, nested_condition(alloc, 17)?.as_slice())?;
+    if fits.0 != 0 || fits.1 != 1 || large.0 != 17 || large.1 != 23 {
+        return Err(Memory);
+    }
+    if defined.0 != 0 || defined.1 != 1 || large_definition.0 != 17 || large_definition.1 != 60 {
+        return Err(Memory);
+    }
+    Ok(())
+}

@@ -13,6 +13,7 @@ mod laws;
 mod levels;
 mod problem;
 mod scopes;
+mod sizes;
 mod sorts;
 #[cfg(test)]
 mod tests;

@@ -17,4 +17,4 @@ returns-in-Ok c =
     let b = subst (λ r. IsElaborated c.elaborate.new.self.entries r (elaborated (context_at c.args.text.now s c.args.at None true [] []) c.args.item.now)) c.in-Ok.is a in
     let r = read_in c.elaborate.new.self.entries b.0 c.in-Ok.term in
     subst (λ (next : Next). Applies c.asserted.result s next (state_of c.asserted.new.self)) (assert_goes c.args.text.now s c.args.at c.args.item.now r b.1)
-    (goes_on c.asserted.result s (state_of c.elaborate.new.self) (state_of c.asserted.new.self) _ r (λ (t : State). new_asserted t c.args.item.now) b.1 c.elaborate.ensures.same (c.asserted.ensures b.0))
+    (goes_on c.asserted.result s (state_of c.elaborate.new.self) (state_of c.asserted.new.self) _ r (λ (t : State). new_asserted t c.args.at c.args.item.now) b.1 c.elaborate.ensures.same (c.asserted.ensures b.0))
