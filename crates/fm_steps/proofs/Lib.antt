@@ -1,0 +1,13 @@
+pub mod Lists
+pub mod Numbers
+pub mod Trails
+pub mod Explained
+pub mod Known
+pub mod Heads
+pub mod Smaller
+pub mod Guards
+pub mod Guarded
+pub mod Assumed
+pub mod Freely
+pub mod Starts
+pub mod Running

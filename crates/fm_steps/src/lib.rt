@@ -1,0 +1,7 @@
+//! The search machine: its states, its events with what each asks for and changes, its menu, its steps and runs, and the
+//! laws of them. It computes nothing.
+#![tactic(auto)]
+
+mod laws;
+
+pub use laws::{events_keep, runs_are_lawful, runs_follow_the_menu, start_is_lawful, steps_keep};
