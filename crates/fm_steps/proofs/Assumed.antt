@@ -1,9 +1,9 @@
 -- Positive size literals stand above level 0, and not in the free phase: each event keeps it whose row is met and which
 -- decides freely.
-use Rattle.std.proofs.Common.{◌≡◌, ◌≢◌, ℕ, ◌+◌, ◌<◌, ◌≤◌, Bool, true, false, not, List, [], ◌∷◌, ◌++◌, length, map, slice_get, Some, None, inl, inr, refl, sym, ap, subst, ◌∙◌, arith}
+use Rattle.std.proofs.Common.{◌≡◌, ◌≢◌, ℕ, ◌+◌, ◌<◌, Bool, true, false, not, List, [], ◌∷◌, ◌++◌, length, map, slice_get, Some, inl, inr, refl, sym, ap, subst, ◌∙◌, arith}
 use Rattle.std.specs.List.{flat_map}
 use Rattle.std.proofs.lemmas.Bool.{false≢true}
-use Rattle.fm_base.specs.Resolution.{Has, SameSet}
+use Rattle.fm_base.specs.Resolution.{SameSet}
 use Rattle.fm_base.specs.declared.ids.Lit.{Lit}
 use Rattle.fm_bank.specs.Instances.{equality}
 use Rattle.fm_bank.specs.Interning.{lit_in, with_atom, with_atoms}

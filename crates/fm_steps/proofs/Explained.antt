@@ -1,17 +1,14 @@
 -- Each event whose row is met leaves a trail with levels and reasons, on which no atom stands twice.
-use Rattle.std.proofs.Common.{◌≡◌, ◌≢◌, ℕ, Bool, true, not, List, [], ◌∷◌, ◌++◌, length, map, slice_get, Some, None, inl, inr, refl, sym, ap, subst, ◌∙◌}
-use Rattle.std.specs.Prelude.{Option}
-use Rattle.fm_base.specs.Resolution.{Has}
+use Rattle.std.proofs.Common.{◌≡◌, ℕ, true, not, List, [], ◌∷◌, ◌++◌, length, map, slice_get, Some, sym, ap, subst, ◌∙◌}
 use Rattle.fm_base.specs.declared.ids.Lit.{Lit}
 use Rattle.fm_base.proofs.Resolution.{has_mapped, mapped_has}
-use Rattle.fm_bank.specs.Interning.{atom_number, lit_in, with_atom, with_atoms}
+use Rattle.fm_bank.specs.Interning.{lit_in, with_atom, with_atoms}
 use Rattle.fm_bank.specs.declared.atom.Atom.{Atom}
 use Rattle.fm_bank.specs.declared.literal.Literal.{Literal}
-use Rattle.fm_sat.specs.Learning.{IsAsserting, IsExplained, IsReason, LearntBy, Steps}
+use Rattle.fm_sat.specs.Learning.{IsAsserting, IsReason, LearntBy, Steps}
 use Rattle.fm_sat.proofs.Asserting.{asserting_goes_on, learning_goes_on'}
 use Rattle.fm_sat.proofs.Explaining.{unit_reason}
-use Rattle.fm_trail.specs.declared.entry.Entry.{Entry}
-use Rattle.fm_trail.specs.Trail.{AreOver, is_false}
+use Rattle.fm_trail.specs.Trail.{is_false}
 use Rattle.fm_steps.specs.Facts.{AtomsAreKnown, TrailIsExplained}
 use Rattle.fm_steps.specs.Lemmas.{IsUnitLemma, are_known}
 use Rattle.fm_steps.specs.Picks.{Known}

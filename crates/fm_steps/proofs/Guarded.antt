@@ -1,6 +1,6 @@
 -- Each event whose row is met leaves clauses of which each has a negative size literal where it has a size literal at all.
-use Rattle.std.proofs.Common.{◌≡◌, ◌≢◌, ℕ, ◌+◌, ◌-◌, ◌<◌, ◌⊎◌, Bool, true, false, not, cond, nat_le, List, [], ◌∷◌, ◌++◌, length, map, slice_get, Some, None, inl, inr, refl, sym, ap, subst, ◌∙◌, arith}
-use Rattle.std.specs.List.{filter, flat_map, list_any}
+use Rattle.std.proofs.Common.{◌≡◌, ℕ, ◌+◌, ◌-◌, ◌⊎◌, Bool, true, false, not, cond, nat_le, List, [], ◌∷◌, ◌++◌, length, map, inl, inr, refl, sym, ap, subst, ◌∙◌}
+use Rattle.std.specs.List.{flat_map, list_any}
 use Rattle.std.proofs.lemmas.Bool.{cond_both, false≢true, not-true}
 use Rattle.fm_base.specs.Resolution.{Has}
 use Rattle.fm_base.specs.declared.formula.Patom.{Patom}
@@ -18,7 +18,7 @@ use Rattle.fm_sat.specs.Learning.{LearntBy, Steps}
 use Rattle.fm_trail.specs.declared.entry.Entry.{Entry}
 use Rattle.fm_trail.proofs.Places.{get_push}
 use Rattle.fm_steps.specs.Content.{decides, ground_literals_of, is_size, literals_of, opposites}
-use Rattle.fm_steps.specs.Facts.{AreClausesOver, AreGuarded, AtomsAreKnown, ClausesAreGuarded, HasGuard, IsGuarded, TrailIsExplained, size_at}
+use Rattle.fm_steps.specs.Facts.{AreClausesOver, AreGuarded, AtomsAreKnown, ClausesAreGuarded, IsGuarded, TrailIsExplained, size_at}
 use Rattle.fm_steps.specs.Lemmas.{Due, IsDue, sum_literals}
 use Rattle.fm_steps.specs.Picks.{Known, Settles, pick_literals}
 use Rattle.fm_steps.specs.Rows.{Offer, Row, after_learning, instance_literals}

@@ -1,5 +1,5 @@
 -- What is learnt from clauses whose size literals are guarded has them guarded.
-use Rattle.std.proofs.Common.{◌≡◌, ◌≢◌, ℕ, Bool, true, false, not, List, [], ◌∷◌, slice_get, Some, inl, inr, refl, sym, ap, ◌∙◌}
+use Rattle.std.proofs.Common.{◌≡◌, ◌≢◌, ℕ, Bool, true, false, not, List, [], ◌∷◌, inl, inr, sym, ap, ◌∙◌}
 use Rattle.std.proofs.lemmas.Bool.{cases_Bool, false≢true, true≢false}
 use Rattle.fm_base.specs.Resolution.{Has, Resolves, SameSet, opposite}
 use Rattle.fm_base.specs.declared.ids.Lit.{Lit}

@@ -1,5 +1,5 @@
 -- Each event whose row is met leaves no head past the end of the trail, and no instance twice.
-use Rattle.std.proofs.Common.{◌≡◌, ℕ, ◌+◌, ◌≤◌, List, [], ◌∷◌, ◌++◌, length, sym, subst, arith}
+use Rattle.std.proofs.Common.{ℕ, ◌+◌, List, [], ◌∷◌, ◌++◌, length, sym, subst, arith}
 use Rattle.std.proofs.lemmas.List.{length_push}
 use Rattle.fm_base.specs.declared.ids.Lit.{Lit}
 use Rattle.fm_sat.specs.Learning.{Steps}

@@ -1,17 +1,16 @@
 -- Each event whose row is met leaves known atoms alone on the trail and in the clauses; and what the picks name is known.
-use Rattle.std.proofs.Common.{◌≡◌, ℕ, ◌+◌, ◌<◌, ◌≤◌, true, List, [], ◌∷◌, ◌++◌, length, map, slice_get, Some, inl, inr, refl, sym, subst, arith}
-use Rattle.std.specs.List.{flat_map, list_any}
+use Rattle.std.proofs.Common.{ℕ, ◌+◌, ◌<◌, ◌≤◌, true, List, [], ◌∷◌, ◌++◌, length, map, inl, inr, refl, sym, subst, arith}
+use Rattle.std.specs.List.{flat_map}
 use Rattle.fm_base.specs.Resolution.{Has}
 use Rattle.fm_base.specs.declared.ids.Lit.{Lit}
 use Rattle.fm_base.proofs.Resolution.{mapped_has}
 use Rattle.fm_bank.specs.Instances.{equality}
-use Rattle.fm_bank.specs.Interning.{is_same_atom, lit_in, with_atom, with_atoms}
+use Rattle.fm_bank.specs.Interning.{lit_in, with_atom, with_atoms}
 use Rattle.fm_bank.specs.declared.atom.Atom.{Atom}
 use Rattle.fm_bank.specs.declared.literal.Literal.{Literal}
 use Rattle.fm_sat.specs.Learning.{IsAsserting, Steps}
 use Rattle.fm_sat.proofs.Endings.{false_member}
 use Rattle.fm_sat.proofs.Explaining.{unit_reason}
-use Rattle.fm_trail.specs.declared.entry.Entry.{Entry}
 use Rattle.fm_trail.specs.Trail.{AreOver, decision, implied, up_to}
 use Rattle.fm_trail.proofs.Places.{get_push}
 use Rattle.fm_steps.specs.Facts.{AreClausesOver, AtomsAreKnown, PicksAreKnown, TrailIsExplained}

@@ -11,3 +11,6 @@ pub mod Assumed
 pub mod Freely
 pub mod Starts
 pub mod Running
+pub mod Counts
+pub mod Worked
+pub mod Readers

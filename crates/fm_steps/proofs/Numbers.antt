@@ -1,6 +1,5 @@
 -- Atoms and their numbers, as atoms become known.
-use Rattle.std.proofs.Common.{◌≡◌, ℕ, zero, suc, ◌+◌, ◌<◌, ◌≤◌, Bool, true, false, cond, nat_lt, List, [], ◌∷◌, ◌++◌, length, slice_get, Some, None, inl, inr, refl, sym, ap, subst, ◌∙◌, arith}
-use Rattle.std.specs.Prelude.{Option, option_and_then}
+use Rattle.std.proofs.Common.{◌≡◌, ℕ, zero, suc, ◌<◌, ◌≤◌, Bool, true, false, cond, nat_lt, List, [], ◌∷◌, ◌++◌, length, slice_get, Some, None, inl, inr, refl, sym, ap, subst, ◌∙◌, arith}
 use Rattle.std.specs.List.{list_all, list_any, position_or_len}
 use Rattle.std.proofs.lemmas.Bool.{and_from, and_parts, cases_Bool, cond-true, false≢true, le-ltb, lt-ltb, ltb-true, or_cases}
 use Rattle.std.proofs.lemmas.List.{length-append, length_push}
@@ -10,7 +9,7 @@ use Rattle.fm_bank.specs.declared.atom.Atom.{Atom}
 use Rattle.fm_bank.specs.declared.literal.Literal.{Literal}
 use Rattle.fm_bank.proofs.Atoms.{is_same_atom-refl, same_atom}
 use Rattle.fm_bank.proofs.Growing.{atoms_fronts}
-use Rattle.fm_bank.proofs.Places.{place_cons, place_kept, place_new, place_none}
+use Rattle.fm_bank.proofs.Places.{place_cons, place_kept, place_none}
 use Rattle.fm_steps.specs.Content.{is_size}
 use Rattle.fm_steps.specs.Facts.{is_size_in, size_at}
 use Rattle.fm_steps.specs.Lemmas.{is_some_number}

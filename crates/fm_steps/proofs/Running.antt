@@ -7,7 +7,7 @@ use Rattle.fm_steps.specs.Menu.{menu_of}
 use Rattle.fm_steps.specs.Facts.{IsLawful, PicksAreKnown, SizesAreAssumed}
 use Rattle.fm_steps.specs.Picks.{IsKnown, Known}
 use Rattle.fm_steps.specs.Rows.{Offer}
-use Rattle.fm_steps.specs.Runs.{IsReached, IsStart, Move, Run, carried, event_of}
+use Rattle.fm_steps.specs.Runs.{IsReached, Move, Run, carried, event_of}
 use Rattle.fm_steps.specs.State.{Budget, Problem, State}
 use Rattle.fm_steps.proofs.Explained.{move_explained}
 use Rattle.fm_steps.proofs.Freely.{step_assumed}

@@ -1,8 +1,8 @@
 -- The start has what each event keeps.
-use Rattle.std.proofs.Common.{◌≡◌, ℕ, zero, suc, ◌+◌, ◌<◌, ◌≤◌, ◌==◌, Bool, true, false, cond, List, [], ◌∷◌, ◌++◌, length, map, slice_get, Some, None, inl, inr, refl, sym, ap, subst, ◌∙◌, arith}
+use Rattle.std.proofs.Common.{◌≡◌, ℕ, zero, suc, ◌==◌, Bool, true, false, cond, List, [], ◌∷◌, ◌++◌, length, map, slice_get, Some, inl, refl, sym, ap, subst, ◌∙◌, arith}
 use Rattle.std.specs.List.{flat_map, range_with_len}
 use Rattle.std.proofs.lemmas.Bool.{false≢true}
-use Rattle.fm_base.specs.Resolution.{AreDistinct, Has}
+use Rattle.fm_base.specs.Resolution.{AreDistinct}
 use Rattle.fm_bank.specs.declared.atom.Atom.{Atom}
 use Rattle.fm_bank.specs.declared.clause.Clause.{Clause as FirstOrderClause}
 use Rattle.fm_bank.specs.declared.literal.Literal.{Literal}
@@ -16,7 +16,7 @@ use Rattle.fm_steps.specs.Runs.{IsStart}
 use Rattle.fm_steps.specs.Sizes.{card, lit}
 use Rattle.fm_steps.specs.Start.{empty_state, first_state, with_elements, with_first_sum, with_ground_clauses}
 use Rattle.fm_steps.specs.State.{Problem, State, Trail, know_all, with_literals}
-use Rattle.fm_steps.proofs.Guarded.{AreGuards, GuardsItself, adds_guarded, instance_ground, no_size, old_guarded}
+use Rattle.fm_steps.proofs.Guarded.{AreGuards, adds_guarded, instance_ground, no_size, old_guarded}
 use Rattle.fm_steps.proofs.Known.{adds, knows}
 use Rattle.fm_steps.proofs.Lists.{Has-end}
 
@@ -25,11 +25,12 @@ record Rest : Type 0 where
   trail : Trail
   added : List (ℕ × List ℕ)
   instances : ℕ
+  decisions : ℕ
   free : Bool
   bound : ℕ
 
 abbrev rest_of : State → Rest
-rest_of s = record { trail = s.trail; added = s.added; instances = s.instances; free = s.free; bound = s.bound }
+rest_of s = record { trail = s.trail; added = s.added; instances = s.instances; decisions = s.decisions; free = s.free; bound = s.bound }
 
 record IsClean (s : State) : Type 0 where
   atoms : AtomsAreKnown s
@@ -153,3 +154,6 @@ start_assumed p s st i e at size pos =
     let trail : s.trail ≡ no_trail = ap (λ (x : Rest). x.trail) (begun p s st).rest in
     let none : slice_get [] i ≡ Some e = subst (λ (t : Trail). slice_get t.entries i ≡ Some e) trail at in
     absurd (cc none)
+
+pub start_counted : (p : Problem) (s : State) → IsStart p s → (s.instances ≡ 0) × (s.decisions ≡ 0)
+start_counted p s st = let h = (begun p s st).rest in (ap (λ (x : Rest). x.instances) h, ap (λ (x : Rest). x.decisions) h)

@@ -1,9 +1,8 @@
 -- Trails: one entry more, and going back.
-use Rattle.std.proofs.Common.{◌≡◌, ◌≢◌, ℕ, ◌+◌, ◌<◌, ◌≤◌, Bool, true, false, not, cond, nat_lt, List, [], ◌∷◌, ◌++◌, length, take, slice_get, Some, None, inl, inr, refl, sym, ap, subst, ◌∙◌, arith}
+use Rattle.std.proofs.Common.{◌≡◌, ◌≢◌, ℕ, ◌<◌, ◌≤◌, Bool, true, false, not, cond, nat_lt, List, [], ◌∷◌, ◌++◌, length, slice_get, Some, None, inl, inr, refl, sym, ap, subst, ◌∙◌, arith}
 use Rattle.std.specs.Prelude.{Option, option_and_then}
 use Rattle.std.specs.List.{list_any}
-use Rattle.std.proofs.lemmas.Bool.{cases_Bool, cases_lt, false≢true, le-ltb, ltb-false}
-use Rattle.fm_base.specs.Resolution.{Has, SameSet, opposite}
+use Rattle.std.proofs.lemmas.Bool.{cases_Bool, cases_lt, false≢true, ltb-false}
 use Rattle.fm_base.specs.declared.ids.AtomId.{AtomId}
 use Rattle.fm_base.specs.declared.ids.Lit.{Lit}
 use Rattle.fm_bank.specs.Interning.{atom_number, find_atom, is_same_atom, with_atom}
@@ -14,12 +13,11 @@ use Rattle.fm_sat.specs.Laws.{GoesOn}
 use Rattle.fm_sat.specs.Learning.{IsExplained, IsReason}
 use Rattle.fm_sat.proofs.Explaining.{explains_add, explains_back, explains_decide, explains_imply}
 use Rattle.fm_trail.specs.declared.entry.Entry.{Entry}
-use Rattle.fm_trail.specs.Trail.{AreLevelled, AreOver, HasOneEntry, decision, implied, is_false, is_none, is_value, level_of, place_of, up_to, value_of}
-use Rattle.fm_trail.proofs.Going.{front_of, level_most, once_front}
+use Rattle.fm_trail.specs.Trail.{AreLevelled, AreOver, HasOneEntry, decision, implied, is_false, is_none, is_value, place_of, up_to, value_of}
+use Rattle.fm_trail.proofs.Going.{front_of, once_front}
 use Rattle.fm_trail.proofs.Levels.{levelled_front, levelled_push}
 use Rattle.fm_trail.proofs.Literals.{false_at}
 use Rattle.fm_trail.proofs.Places.{get_front, get_push, place_none, place_some, value_at, value_by_place, value_none}
-use Rattle.fm_steps.specs.Lemmas.{is_some_number}
 use Rattle.fm_steps.specs.State.{Clause, value_by}
 use Rattle.fm_steps.proofs.Numbers.{with_known}
 

@@ -1,9 +1,11 @@
 -- What holds in every state of a run.
-use Rattle.std.specs.Prelude.{◌≡◌, ◌<◌, ◌≤◌, ℕ, true, false, Bool, List, length, map, slice_get, Option, Some, None}
+use Rattle.std.specs.Prelude.{◌≡◌, ◌<◌, ◌≤◌, ℕ, true, false, Bool, List, length, slice_get, Option, Some, None}
 use Rattle.std.specs.List.{flat_map}
 use Rattle.fm_base.specs.Resolution.{AreDistinct, Has}
 use Rattle.fm_base.specs.declared.ids.Lit.{Lit}
 use Rattle.fm_bank.specs.declared.atom.Atom.{Atom}
+use Rattle.fm_guide.specs.Events.{count_decisions, count_instances}
+use Rattle.fm_guide.specs.declared.event.Event.{Event}
 use Rattle.fm_sat.specs.Learning.{IsExplained}
 use Rattle.fm_trail.specs.declared.entry.Entry.{Entry}
 use Rattle.fm_trail.specs.Trail.{AreOver, AreWithin}
@@ -82,3 +84,8 @@ pub record IsLawful (p : Problem) (s : State) : Type 0 where
   pub atoms : AtomsAreKnown s
   pub bounds : SmallerAreRefuted p.sig.sorts s
   pub guards : ClausesAreGuarded s
+
+-- the spent counts are those of the events
+pub record AreCounted (events : List Event) (s : State) : Type 0 where
+  pub instances : s.instances ≡ count_instances events
+  pub decisions : s.decisions ≡ count_decisions events

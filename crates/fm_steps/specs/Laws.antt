@@ -1,9 +1,9 @@
 -- Laws of events, steps and runs.
-use Rattle.std.specs.Prelude.{◌≡◌, ◌≢◌, List, ◌∷◌}
+use Rattle.std.specs.Prelude.{◌≢◌, List, ◌∷◌}
 use Rattle.fm_base.specs.Resolution.{Has}
 use Rattle.fm_guide.specs.declared.event.Event.{Event}
 use Rattle.fm_guide.specs.declared.event.Word.{Word}
-use Rattle.fm_steps.specs.Facts.{IsLawful}
+use Rattle.fm_steps.specs.Facts.{AreCounted, IsLawful}
 use Rattle.fm_steps.specs.Menu.{menu_of}
 use Rattle.fm_steps.specs.Picks.{IsKnown, Known}
 use Rattle.fm_steps.specs.Rows.{Offer}
@@ -42,3 +42,7 @@ WrongEventsEndNoRun =
 -- and none goes on after an answer
 abbrev pub AnswersEndRuns : Type 0
 AnswersEndRuns = (p : Problem) (b : Budget) (s : State) (w : Word) (e : Event) (es : List Event) (t : State) → Run p b s (Event.Answer w ∷ (e ∷ es)) t → ⊥
+
+-- the counts of every state of a run are those of its events
+abbrev pub RunsAreCounted : Type 0
+RunsAreCounted = (p : Problem) (b : Budget) (events : List Event) (s : State) → IsReached p b events s → AreCounted events s

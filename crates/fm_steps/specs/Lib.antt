@@ -4,6 +4,7 @@ pub mod Laws
 pub mod Lemmas
 pub mod Menu
 pub mod Picks
+pub mod Readers
 pub mod Rows
 pub mod Runs
 pub mod Sizes

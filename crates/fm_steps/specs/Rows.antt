@@ -1,6 +1,6 @@
 -- What each event asks for and changes: one record an event. An offer says more than its event: which lemma is meant, and
 -- which atom, also where it isn't known yet.
-use Rattle.std.specs.Prelude.{◌≡◌, ◌≢◌, ◌⊎◌, ℕ, ◌+◌, ◌<◌, Bool, true, false, List, [], ◌∷◌, ◌++◌, length, map, slice_get, Option, Some, None}
+use Rattle.std.specs.Prelude.{◌≡◌, ◌⊎◌, ℕ, ◌+◌, ◌<◌, Bool, true, false, List, [], ◌∷◌, ◌++◌, length, map, slice_get, Some, None}
 use Rattle.std.specs.List.{list_all, list_any}
 use Rattle.fm_base.specs.Models.{IsElements}
 use Rattle.fm_base.specs.Resolution.{Has}

@@ -1,5 +1,5 @@
 -- Steps and runs.
-use Rattle.std.specs.Prelude.{◌≡◌, ◌≢◌, ℕ, ◌+◌, ◌==◌, if◌then◌else◌, List, [], ◌∷◌, ◌++◌, slice_get, Some, map}
+use Rattle.std.specs.Prelude.{◌≡◌, ℕ, ◌==◌, if◌then◌else◌, List, [], ◌∷◌, ◌++◌, slice_get, Some, map}
 use Rattle.fm_base.specs.declared.ids.TermId.{TermId}
 use Rattle.fm_bank.specs.Interning.{lit_in}
 use Rattle.fm_guide.specs.declared.event.Event.{Event}

@@ -1,6 +1,5 @@
 -- A state of the search machine, and the changes of which its events are made.
-use Rattle.std.specs.Prelude.{◌≡◌, ℕ, ◌+◌, Bool, List, [], ◌∷◌, ◌++◌, length, map, take, Option, option_and_then}
-use Rattle.fm_base.specs.declared.ids.AtomId.{AtomId}
+use Rattle.std.specs.Prelude.{ℕ, ◌+◌, Bool, List, [], ◌∷◌, ◌++◌, length, map, take, Option, option_and_then}
 use Rattle.fm_base.specs.declared.ids.Lit.{Lit}
 use Rattle.fm_base.specs.declared.ids.Reader.{Reader}
 use Rattle.fm_bank.specs.declared.atom.Atom.{Atom}

@@ -1,5 +1,6 @@
 ghost use Rattle.fm_steps.specs.Facts.{AtomsAreKnown, ClausesAreGuarded, HeadsAreWithin, InstancesAreCounted, IsLawful, PicksAreKnown, SizesAreAssumed, SmallerAreRefuted, TrailIsExplained};
-ghost use Rattle.fm_steps.specs.Laws.{AnswersEndRuns, HasAtStart, HoldsInRuns, IsKeptBySteps, IsLeftByMoves, WrongEventsEndNoRun};
+ghost use Rattle.fm_steps.specs.Readers.{ReadersCloseLevels, ReadersGoBack, ReadersStay};
+ghost use Rattle.fm_steps.specs.Laws.{AnswersEndRuns, HasAtStart, HoldsInRuns, IsKeptBySteps, IsLeftByMoves, RunsAreCounted, WrongEventsEndNoRun};
 
 /// The start is lawful, no positive size literal stands at level 0, and the equalities of its cliques are known. It is a
 /// law of the definitions and does nothing.
@@ -37,6 +38,7 @@ pub fn runs_are_lawful()
     ensures guards { HoldsInRuns (λ p s. ClausesAreGuarded s) }
     ensures sizes { HoldsInRuns (λ p s. SizesAreAssumed s) }
     ensures picks { HoldsInRuns (λ p s. PicksAreKnown s) }
+    ensures counts { RunsAreCounted }
 {}
 
 /// A run that a wrong event ends isn't one, nor is one that goes on after its answer. It is a law of the definitions and
@@ -44,4 +46,12 @@ pub fn runs_are_lawful()
 pub fn runs_follow_the_menu()
     ensures offered { WrongEventsEndNoRun }
     ensures answered { AnswersEndRuns }
+{}
+
+/// What a reader has read goes back with the trail: a level that is open for it closes, and where it isn't open nothing
+/// changes. It is a law of the definitions and does nothing.
+pub fn readers_go_back()
+    ensures read { ReadersGoBack }
+    ensures closed { ReadersCloseLevels }
+    ensures same { ReadersStay }
 {}

@@ -4,4 +4,7 @@
 
 mod laws;
 
-pub use laws::{events_keep, runs_are_lawful, runs_follow_the_menu, start_is_lawful, steps_keep};
+pub use laws::{
+    events_keep, readers_go_back, runs_are_lawful, runs_follow_the_menu, start_is_lawful,
+    steps_keep,
+};

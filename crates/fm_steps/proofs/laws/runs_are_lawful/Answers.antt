@@ -1,3 +1,4 @@
+use Rattle.fm_steps.proofs.Counts.{reached_counted}
 use Rattle.fm_steps.proofs.Running.{reached_good}
 use Rattle.fm_steps.proofs.laws.runs_are_lawful.Goals as goal
 
@@ -24,3 +25,6 @@ returns-clause-sizes c = λ p b es s h. (reached_good p b es s h).sizes
 
 pub returns-clause-picks : goal.returns-clause-picks
 returns-clause-picks c = λ p b es s h. (reached_good p b es s h).picks
+
+pub returns-clause-counts : goal.returns-clause-counts
+returns-clause-counts c = reached_counted
