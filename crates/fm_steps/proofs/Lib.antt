@@ -14,3 +14,5 @@ pub mod Running
 pub mod Counts
 pub mod Worked
 pub mod Readers
+pub mod Menus
+pub mod Ready

@@ -83,5 +83,8 @@ ShowsEquality held ls = (t : Tests) → AreTestsBy held (opposites ls) t → has
 abbrev pub is_oldest : Tests → ℕ → Bool
 is_oldest t n = list_all (λ m. not (t.same (object m) (object n))) (range_with_len 0 n)
 
+abbrev pub is_term_of_sort : Held → ℕ → ℕ → Bool
+is_term_of_sort held u n = is_type (type_of held.sig held.terms n) (Ty.Of (record { 0 = u }))
+
 abbrev pub classes_of : Held → Tests → SortId → List ℕ
-classes_of held t s = filter (λ n. is_type (type_of held.sig held.terms n) (Ty.Of s) && is_oldest t n) (range_with_len 0 (length held.terms))
+classes_of held t s = filter (λ n. is_term_of_sort held s.0 n && is_oldest t n) (range_with_len 0 (length held.terms))

@@ -84,13 +84,14 @@ AllRead read ls = (k : Literal) → Has ls k → Has (opposites read) k
 abbrev pub OthersRead : List Literal → List Literal → Literal → Type 0
 OthersRead read ls l = (k : Literal) → Has ls k → (k ≡ l) ⊎ Has (opposites read) k
 
--- an equality lemma that shows a clash of what was read, and one that shows a value
+-- an equality lemma that shows a clash of what was read, and one that shows the value of a known atom without value
 pub record IsClashLemma (s : State) (k : Known) (ls : List Literal) : Type 0 where
   pub clash : has_clash (read_literals Reader.Congruence s) k.congruence ≡ true
   pub read : AllRead (read_literals Reader.Congruence s) ls
   pub shows : ShowsEquality s.held ls
 
 pub record IsValueLemma (s : State) (k : Known) (a : Atom) (v : Bool) (ls : List Literal) : Type 0 where
+  pub known : is_known s a ≡ true
   pub unset : is_unvalued s a ≡ true
   pub decided : decides k.congruence a v ≡ true
   pub has : Has ls (lit v a)

@@ -5,6 +5,7 @@ pub mod Lemmas
 pub mod Menu
 pub mod Picks
 pub mod Readers
+pub mod Ready
 pub mod Rows
 pub mod Runs
 pub mod Sizes

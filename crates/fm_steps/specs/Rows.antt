@@ -9,6 +9,7 @@ use Rattle.fm_base.specs.declared.ids.Reader.{Reader}
 use Rattle.fm_bank.specs.declared.atom.Atom.{Atom}
 use Rattle.fm_bank.specs.declared.clause.Clause.{Clause as FirstOrderClause}
 use Rattle.fm_bank.specs.declared.literal.Literal.{Literal}
+use Rattle.fm_bank.specs.Closure.{object}
 use Rattle.fm_bank.specs.Clauses.{Satisfies, lits_true}
 use Rattle.fm_bank.specs.Instances.{equality}
 use Rattle.fm_bank.specs.Interning.{Held, after_instance, find_atom, first_places, lit_in, literals_grown}
@@ -19,10 +20,11 @@ use Rattle.fm_sat.specs.Learning.{IsAsserting, IsConflict, IsRefuted, LearntBy, 
 use Rattle.fm_sat.specs.Store.{HasNoFalse, IsUnit}
 use Rattle.fm_trail.specs.declared.entry.Entry.{Entry}
 use Rattle.fm_trail.specs.Trail.{head_of, is_true}
+use Rattle.fm_steps.specs.Content.{classes_of, is_term_of_sort}
 use Rattle.fm_steps.specs.Lemmas.{Due, IsDue, IsInClauses, IsUnitLemma, are_known, is_false_lemma}
 use Rattle.fm_steps.specs.Picks.{Known}
-use Rattle.fm_steps.specs.Sizes.{is_refuted, is_unvalued}
-use Rattle.fm_steps.specs.State.{Budget, Clause, Pick, Problem, State, back_to, decided, know, put, put_decision, read_one, with_clause, with_literals}
+use Rattle.fm_steps.specs.Sizes.{card, holds, is_refuted, is_unvalued, sort}
+use Rattle.fm_steps.specs.State.{Budget, Clause, Problem, State, back_to, decided, know, put, put_decision, read_one, with_clause, with_literals}
 
 pub data Offer : Type 0 where
   Learn : ℕ → Offer
@@ -100,10 +102,17 @@ pub record DecideRow (b : Budget) (s : State) (l : Literal) (t : State) : Type 0
   pub unset : is_unvalued s l.atom ≡ true
   pub after : t ≡ decided (put_decision (lit_in (know l.atom s).held.atoms l) (know l.atom s))
 
--- Split: bounded; two terms of a sort's test, which aren't apart, and whose equality isn't known; it is known then
+-- Split: bounded; some bound on the sort is true, by what Regions knows the sort has more classes, and two terms of it are in
+-- different classes and not apart; their equality isn't known, and is known then
 pub record SplitRow (s : State) (k : Known) (a b : ℕ) (t : State) : Type 0 where
   pub bounded : s.free ≡ false
-  pub asked : (u : ℕ) × (pick : Pick) × (slice_get s.picks u ≡ Some (Some pick)) × Has pick.terms a × Has pick.terms b
+  pub sort_of : ℕ
+  pub bound : ℕ
+  pub holds_here : holds s true (card sort_of bound) ≡ true
+  pub more : bound < length (classes_of s.held k.regions (sort sort_of))
+  pub first : is_term_of_sort s.held sort_of a ≡ true
+  pub second : is_term_of_sort s.held sort_of b ≡ true
+  pub different : k.regions.same (object a) (object b) ≡ false
   pub open_ : k.regions.apart a b ≡ false
   pub unknown : find_atom s.held.atoms (equality a b) ≡ None
   pub after : t ≡ know (equality a b) s

@@ -1,5 +1,6 @@
 ghost use Rattle.fm_steps.specs.Facts.{AtomsAreKnown, ClausesAreGuarded, HeadsAreWithin, InstancesAreCounted, IsLawful, PicksAreKnown, SizesAreAssumed, SmallerAreRefuted, TrailIsExplained};
 ghost use Rattle.fm_steps.specs.Readers.{ReadersCloseLevels, ReadersGoBack, ReadersStay};
+ghost use Rattle.fm_steps.specs.Ready.{InstanceIsReady, LearnIsReady, RaiseIsReady, SatIsReady, TakeIsReady, TurnIsReady, UnitIsReady, UnsatIsReady};
 ghost use Rattle.fm_steps.specs.Laws.{AnswersEndRuns, HasAtStart, HoldsInRuns, IsKeptBySteps, IsLeftByMoves, RunsAreCounted, WrongEventsEndNoRun};
 
 /// The start is lawful, no positive size literal stands at level 0, and the equalities of its cliques are known. It is a
@@ -54,4 +55,17 @@ pub fn readers_go_back()
     ensures read { ReadersGoBack }
     ensures closed { ReadersCloseLevels }
     ensures same { ReadersStay }
+{}
+
+/// What the menu offers can be done: of each offer, what its row asks for by the clauses, the trail and the candidate. It is
+/// a law of the definitions and does nothing.
+pub fn offers_are_ready()
+    ensures learn { LearnIsReady }
+    ensures unsat { UnsatIsReady }
+    ensures unit { UnitIsReady }
+    ensures take { TakeIsReady }
+    ensures turn { TurnIsReady }
+    ensures instance { InstanceIsReady }
+    ensures sat { SatIsReady }
+    ensures raise { RaiseIsReady }
 {}
