@@ -1,0 +1,16 @@
+pub mod Alike
+pub mod Candidates
+pub mod Elements
+pub mod FirstFailing
+pub mod Fits
+pub mod Holds
+pub mod LeastTuple
+pub mod Members
+pub mod Newness
+pub mod Orders
+pub mod Reaching
+pub mod Searches
+pub mod Subterms
+pub mod Tabling
+pub mod Unique
+pub mod Worked

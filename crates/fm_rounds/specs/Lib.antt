@@ -1,0 +1,6 @@
+pub mod Failing
+pub mod Grounds
+pub mod InstanceTerms
+pub mod Rounds
+pub mod Soundness
+pub mod Tuples

@@ -1,0 +1,34 @@
+ghost use Rattle.fm_rounds.specs.Soundness.{CandidatesHold, ClausesAgree, FailingIsNew, FirstFailingIsLeast, InstanceTermsHold, StartTermsHold, TablesAreWritten, TablesHaveOneForm};
+
+/// The first failing clause and its tuple are what the textbook says of them, and there are none exactly where each clause
+/// holds; and where the added instances are true, the first failing one is none of them. It is a law of the definitions and
+/// does nothing.
+pub fn first_failing_is_least()
+    ensures least { FirstFailingIsLeast }
+    ensures new { FailingIsNew }
+{}
+
+/// An interpretation written as tables fits its signature and reads as itself; and a table has one form. It is a law of the
+/// definitions and does nothing.
+pub fn tables_are_written()
+    ensures written { TablesAreWritten }
+    ensures form { TablesHaveOneForm }
+{}
+
+/// What the candidate of a congruence is good for. It is a law of the definitions and does nothing.
+pub fn candidate_holds()
+    ensures { CandidatesHold }
+{}
+
+/// Interpretations that agree at tuples of elements agree on well sorted clauses. It is a law of the definitions and does
+/// nothing.
+pub fn clauses_agree()
+    ensures { ClausesAgree }
+{}
+
+/// The terms of an instance, and those at the start, are terms with their arguments, and have the terms of the instance's
+/// literals. It is a law of the definitions and does nothing.
+pub fn instance_terms_hold()
+    ensures instance { InstanceTermsHold }
+    ensures start { StartTermsHold }
+{}

@@ -1,0 +1,13 @@
+pub mod Content
+pub mod Facts
+pub mod Laws
+pub mod Lemmas
+pub mod Menu
+pub mod Picks
+pub mod Readers
+pub mod Ready
+pub mod Rows
+pub mod Runs
+pub mod Sizes
+pub mod Start
+pub mod State

@@ -1,0 +1,71 @@
+ghost use Rattle.fm_steps.specs.Facts.{AtomsAreKnown, ClausesAreGuarded, HeadsAreWithin, InstancesAreCounted, IsLawful, PicksAreKnown, SizesAreAssumed, SmallerAreRefuted, TrailIsExplained};
+ghost use Rattle.fm_steps.specs.Readers.{ReadersCloseLevels, ReadersGoBack, ReadersStay};
+ghost use Rattle.fm_steps.specs.Ready.{InstanceIsReady, LearnIsReady, RaiseIsReady, SatIsReady, TakeIsReady, TurnIsReady, UnitIsReady, UnsatIsReady};
+ghost use Rattle.fm_steps.specs.Laws.{AnswersEndRuns, HasAtStart, HoldsInRuns, IsKeptBySteps, IsLeftByMoves, RunsAreCounted, WrongEventsEndNoRun};
+
+/// The start is lawful, no positive size literal stands at level 0, and the equalities of its cliques are known. It is a
+/// law of the definitions and does nothing.
+pub fn start_is_lawful()
+    ensures lawful { HasAtStart IsLawful }
+    ensures sizes { HasAtStart (λ p s. SizesAreAssumed s) }
+    ensures picks { HasAtStart (λ p s. PicksAreKnown s) }
+{}
+
+/// What each event leaves whose row is met in a lawful state, offered or not. It is a law of the definitions and does
+/// nothing.
+pub fn events_keep()
+    ensures trail { IsLeftByMoves (λ p s. TrailIsExplained s) }
+    ensures heads { IsLeftByMoves (λ p s. HeadsAreWithin s) }
+    ensures instances { IsLeftByMoves (λ p s. InstancesAreCounted s) }
+    ensures atoms { IsLeftByMoves (λ p s. AtomsAreKnown s) }
+    ensures bounds { IsLeftByMoves (λ p s. SmallerAreRefuted p.sig.sorts s) }
+    ensures guards { IsLeftByMoves (λ p s. ClausesAreGuarded s) }
+    ensures picks { IsLeftByMoves (λ p s. PicksAreKnown s) }
+{}
+
+/// Each step, which the menu offers, leaves no positive size literal at level 0, and none in the free phase. It is a law
+/// of the definitions and does nothing.
+pub fn steps_keep()
+    ensures { IsKeptBySteps SizesAreAssumed }
+{}
+
+/// What holds in every state of a run. It is a law of the definitions and does nothing.
+pub fn runs_are_lawful()
+    ensures trail { HoldsInRuns (λ p s. TrailIsExplained s) }
+    ensures heads { HoldsInRuns (λ p s. HeadsAreWithin s) }
+    ensures instances { HoldsInRuns (λ p s. InstancesAreCounted s) }
+    ensures atoms { HoldsInRuns (λ p s. AtomsAreKnown s) }
+    ensures bounds { HoldsInRuns (λ p s. SmallerAreRefuted p.sig.sorts s) }
+    ensures guards { HoldsInRuns (λ p s. ClausesAreGuarded s) }
+    ensures sizes { HoldsInRuns (λ p s. SizesAreAssumed s) }
+    ensures picks { HoldsInRuns (λ p s. PicksAreKnown s) }
+    ensures counts { RunsAreCounted }
+{}
+
+/// A run that a wrong event ends isn't one, nor is one that goes on after its answer. It is a law of the definitions and
+/// does nothing.
+pub fn runs_follow_the_menu()
+    ensures offered { WrongEventsEndNoRun }
+    ensures answered { AnswersEndRuns }
+{}
+
+/// What a reader has read goes back with the trail: a level that is open for it closes, and where it isn't open nothing
+/// changes. It is a law of the definitions and does nothing.
+pub fn readers_go_back()
+    ensures read { ReadersGoBack }
+    ensures closed { ReadersCloseLevels }
+    ensures same { ReadersStay }
+{}
+
+/// What the menu offers can be done: of each offer, what its row asks for by the clauses, the trail and the candidate. It is
+/// a law of the definitions and does nothing.
+pub fn offers_are_ready()
+    ensures learn { LearnIsReady }
+    ensures unsat { UnsatIsReady }
+    ensures unit { UnitIsReady }
+    ensures take { TakeIsReady }
+    ensures turn { TurnIsReady }
+    ensures instance { InstanceIsReady }
+    ensures sat { SatIsReady }
+    ensures raise { RaiseIsReady }
+{}

@@ -1,0 +1,10 @@
+//! The search machine: its states, its events with what each asks for and changes, its menu, its steps and runs, and the
+//! laws of them. It computes nothing.
+#![tactic(auto)]
+
+mod laws;
+
+pub use laws::{
+    events_keep, offers_are_ready, readers_go_back, runs_are_lawful, runs_follow_the_menu,
+    start_is_lawful, steps_keep,
+};
