@@ -1,0 +1,12 @@
+//! The first instance of a clause that is false in a candidate.
+#![tactic(auto)]
+
+mod depths;
+mod instances;
+mod linked;
+mod lookup;
+mod prefixes;
+mod search;
+mod values;
+
+pub use instances::failing;
