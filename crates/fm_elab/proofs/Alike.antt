@@ -12,9 +12,8 @@ use Rattle.fm_base.specs.declared.formula.Formula
 use Rattle.fm_base.specs.declared.formula.Formula.{Formula}
 use Rattle.fm_base.specs.declared.formula.Fterm
 use Rattle.fm_base.specs.declared.formula.Fterm.{Fterm}
-use Rattle.fm_base.specs.declared.formula.Formula.TheOpen.{Formula-F, Fterm-F}
 use Rattle.fm_base.proofs.NormalTerms.{Each}
-use Rattle.fm_nnf.specs.Lifting.{Lifted, Lifter, Parts, TermLifter, alone, both, choice_of, lift_all, lift_choice, lift_formula, lift_formula_step, lift_term, lift_term_step, lifted, lifted_choice, lifts, mapped, under}
+use Rattle.fm_nnf.specs.Lifting.{Lifted, Lifter, Parts, TermLifter, alone, both, choice_of, lift_all, lift_choice, lift_formula, lift_formula_step, lift_term, lift_term_step, lifted, lifts, mapped, under}
 use Rattle.fm_nnf.proofs.Formulas.{Cases, fold_at_and, fold_at_app, fold_at_equal, fold_at_iff, fold_at_ite, fold_at_not, fold_at_or, fold_at_pred, fold_at_quant, fold_at_term_ite, fold_at_truth, fold_at_var, formula_induction}
 use Rattle.fm_elab.specs.Sizes.{has_large_form, is_large, is_large_form}
 

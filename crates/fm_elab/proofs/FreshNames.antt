@@ -1,7 +1,7 @@
 -- The names that an elaboration gives are new, by one induction on how deep items nest.
 use Rattle.std.proofs.Common.{◌≡◌, ℕ, zero, suc, ◌+◌, Bool, true, false, not, cond, List, [], ◌∷◌, ◌++◌, map, length, Option, Some, None, ap, refl, sym, subst, ◌∙◌, append_assoc}
 use Rattle.std.specs.Prelude.{Err, Ok, Result, ◌||◌, codes, min, nat_lt}
-use Rattle.std.specs.List.{AllByRecursion, list_any}
+use Rattle.std.specs.List.{AllByRecursion}
 use Rattle.std.specs.Str.{bytes_eq}
 use Rattle.std.proofs.lemmas.List.{append-nil}
 use Rattle.fm_base.specs.Truth.{is_bool}
@@ -19,7 +19,7 @@ use Rattle.fm_levels.proofs.Tabling.{bytes_flip}
 use Rattle.fm_apply.specs.Applied.{Context, Function, Named, and_then, constant_of, function_at, function_by, function_named, in_force, is_core, is_kept_for_solvers, is_own, is_taken, refused, same_type}
 use Rattle.fm_terms.specs.Elaborate.{Answer, Attribute, Go, Read, Reads, all_at, annotated_at, annotated_with, application_at, applied_to, attribute_at, attributes_at, attributes_of, bound_to, by_bound, by_head, closes_at, elaborated, is_list, is_word, items_in, let_at, let_over, let_with, list_at, name_in, named_at, nesting, newest_from, none_read, outside, pairs_in, quantified_at, quantifier_at, quantifier_over, quantifier_with, read_at, read_of, repeated, term_at, term_step, unless_repeated, variables_at, variables_named, with_bound, with_name, with_read, word_at}
 use Rattle.fm_elab.specs.Fresh.{AreFresh, AreNew}
-use Rattle.fm_elab.specs.Givens.{new_asserted, new_defined, put_function, put_functions}
+use Rattle.fm_elab.specs.Givens.{new_asserted, new_defined, put_functions}
 use Rattle.fm_elab.specs.Sizes.{is_large}
 use Rattle.fm_elab.specs.Stacks.{State, is_barred, is_function_taken, is_named, put_all, signature}
 use Rattle.fm_elab.specs.Steps.{Next, assert_term, asserted, context_at, defined, definition, formula_of, given_in, refused_where}

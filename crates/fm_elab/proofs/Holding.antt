@@ -1,7 +1,7 @@
 -- What stays right of an assertion stack.
-use Rattle.std.proofs.lemmas.List.{length-map, map-append}
+use Rattle.std.proofs.lemmas.List.{length-map, length-take, map-append}
 use Rattle.std.specs.Borrow.{Bor}
-use Rattle.std.proofs.Common.{Bool, true, false, ◌≡◌, ℕ, zero, suc, ◌+◌, ◌-◌, ◌<◌, ◌≤◌, List, [], ◌∷◌, ◌++◌, length, map, drop, ap, refl, sym, subst, ◌∙◌, arith, append_assoc}
+use Rattle.std.proofs.Common.{Bool, true, false, ◌≡◌, ℕ, zero, suc, ◌+◌, ◌-◌, ◌<◌, ◌≤◌, List, [], ◌∷◌, ◌++◌, length, map, drop, take, ap, refl, sym, subst, ◌∙◌, arith, append_assoc}
 use Rattle.std.specs.Prelude.{Err, None, Ok, OnOk, Option, Result, Some, cond, slice_get, ◌||◌}
 use Rattle.fm_base.specs.Truth.{is_bool}
 use Rattle.fm_base.specs.declared.formula.Formula.{Formula}
@@ -18,22 +18,23 @@ use Rattle.fm_script.specs.Shown.{Name}
 use Rattle.fm_arena.specs.Meanings.{Term, terms_of}
 use Rattle.fm_arena.specs.Trees.{all_things}
 use Rattle.fm_arena.specs.declared.node.Entry.{Entry}
-use Rattle.fm_levels.specs.Levels.{joined, put}
+use Rattle.fm_levels.specs.Levels.{in_newest, joined, put}
 use Rattle.fm_levels.specs.Tables.{has}
 use Rattle.fm_apply.specs.Applied.{Function as TheFunction, Stands as TheStands, and_then, refused}
-use Rattle.fm_apply.specs.Scoped.{AreBelow, AreInForce, Grows, Numbered, StandsWell, function_in, functions_in}
+use Rattle.fm_apply.specs.Scoped.{AreBelow, AreInForce, Grows, Numbered, StandBefore, StandsWell, function_in, functions_in}
 use Rattle.fm_apply.specs.declared.entry.Function.{Function}
 use Rattle.fm_apply.specs.declared.entry.Stands.{Stands}
+use Rattle.fm_apply.proofs.Cutting.{cut_grows, in_force_back}
 use Rattle.fm_apply.proofs.Growing.{grows_longer, grows_trans, in_force_stays, term_stays}
 use Rattle.fm_terms.specs.Elaborate.{Answer, Read, elaborated, items_in, repeated, unless_repeated}
 use Rattle.fm_terms.specs.Scoped.{IsElaborated, names_of}
 use Rattle.fm_terms.specs.declared.elaboration.Elaborated.{Elaborated}
-use Rattle.fm_elab.specs.Givens.{Extends, definition_at, given_at, put_function, put_functions}
+use Rattle.fm_elab.specs.Givens.{Extends, definition_at, given_at, put_function, put_functions, with_new_assertion}
 use Rattle.fm_elab.specs.Held.{Held, IsWhole, functions_at, held_in, state_of}
 use Rattle.fm_elab.specs.Shown.{names_shown}
 use Rattle.fm_elab.specs.Stacks.{State, closed, fewer_levels, is_barred, is_function_taken, is_named, more_levels, next_function, opened, with_symbol}
 use Rattle.fm_elab.specs.Steps.{Applies, Next, argument_sort, context_at, define_function, defined, definition, each_sort, refused_where, sort_at}
-use Rattle.fm_elab.proofs.Placing.{extends_trans, fewer_at, fewer_in_force, joined_at, length_fewer, length_more, levels_stay, more_at, more_in_force, named_at, put_at, put_in_force}
+use Rattle.fm_elab.proofs.Placing.{extends_trans, fewer_at, fewer_in_force, joined_at, length_fewer, length_more, levels_stay, more_at, more_in_force, named_at, put_at, put_in_force, length_newest}
 
 -- as many levels of each kind as before, and what is in force stands there
 pub whole_by : (h k : Held) → IsWhole h → AreInForce (terms_of k.entries) (joined k.functions) → length k.assertions ≡ length h.assertions → length k.declared_sorts ≡ length h.declared_sorts → length k.sorts ≡ length h.sorts → length k.symbols ≡ length h.symbols → length k.functions ≡ length h.functions → IsWhole k
@@ -305,3 +306,26 @@ each_none {A = A} {B = B} f xs i done new goal s n h = ap (λ (l : List B). l ++
 
 pub names_push : (ns : List (Bor (List ℕ))) (n : Bor (List ℕ)) → names_shown (ns ++ n ∷ []) ≡ names_shown ns ++ n.now ∷ []
 names_push ns n = map-append (λ (m : Bor (List ℕ)). m.now) ns (n ∷ [])
+
+-- an assertion without names, over an arena that is cut back to what the functions stand in
+
+levels_back : (short long : List Entry) (ls : List (List (List ℕ × Function))) → Grows short long → StandBefore (length (terms_of short)) (joined ls) → AreInForce (terms_of long) (joined ls) → functions_at short ls ≡ functions_at long ls
+levels_back short long ls g b h = sym (levels_stay short long ls g (in_force_back short long (joined ls) g b h))
+
+cut_long : (long short : List Entry) (mark : ℕ) → mark ≤ length (terms_of long) → terms_of short ≡ take mark (terms_of long) → mark ≡ length (terms_of short)
+cut_long long short mark le e = let l = ap length e ∙ length-take mark (terms_of long) in omega (arith, l, le)
+
+stand_in_cut : (h : Held) (es : List Entry) (mark : ℕ) → mark ≤ length (terms_of h.entries) → terms_of es ≡ take mark (terms_of h.entries) → StandBefore mark (joined h.functions) → StandBefore (length (terms_of es)) (joined h.functions)
+stand_in_cut h es mark le e b = subst (λ (n : ℕ). StandBefore n (joined h.functions)) (cut_long h.entries es mark le e) b
+
+pub plain_whole : (h : Held) (es : List Entry) (as' : List (List Formula)) (f : Formula) (mark : ℕ) → IsWhole h → mark ≤ length (terms_of h.entries) → terms_of es ≡ take mark (terms_of h.entries) → StandBefore mark (joined h.functions) → as' ≡ in_newest h.assertions f
+    → IsWhole (held_in h.declared_sorts h.sorts h.symbols h.functions es as' h.global true)
+plain_whole h es as' f mark w le e b a =
+    whole_by h (held_in h.declared_sorts h.sorts h.symbols h.functions es as' h.global true) w
+    (in_force_back es h.entries (joined h.functions) (cut_grows h.entries es mark e) (stand_in_cut h es mark le e b) w.in_force) (ap length a ∙ length_newest h.assertions f) refl refl refl refl
+
+pub plain_is : (h : Held) (es : List Entry) (as' : List (List Formula)) (f : Formula) (mark : ℕ) → IsWhole h → mark ≤ length (terms_of h.entries) → terms_of es ≡ take mark (terms_of h.entries) → StandBefore mark (joined h.functions) → as' ≡ in_newest h.assertions f
+    → state_of (held_in h.declared_sorts h.sorts h.symbols h.functions es as' h.global true) ≡ with_new_assertion (state_of h) [] f
+plain_is h es as' f mark w le e b a =
+    let fs = levels_back es h.entries h.functions (cut_grows h.entries es mark e) (stand_in_cut h es mark le e b) w.in_force in
+    λ i. record (state_of h) { functions = fs i; assertions = a i; begun = true }

@@ -1,11 +1,11 @@
 -- Every command leaves the names of an assertion stack distinct within their kind.
-use Rattle.std.proofs.Common.{◌≡◌, ℕ, zero, suc, ◌+◌, ◌-◌, ◌<◌, ◌≤◌, ◌==◌, Bool, true, false, not, cond, List, [], ◌∷◌, ◌++◌, map, length, take, Option, Some, None, ap, refl, sym, subst, ◌∙◌, arith, append_assoc}
-use Rattle.std.specs.Prelude.{Err, Ok, ◌&&◌, ◌||◌, codes, is_some, min, nat_le, nat_lt}
+use Rattle.std.proofs.Common.{◌≡◌, ℕ, zero, suc, ◌+◌, ◌-◌, ◌<◌, ◌==◌, Bool, true, false, not, cond, List, [], ◌∷◌, ◌++◌, map, length, take, Option, Some, None, ap, refl, sym, subst, ◌∙◌, arith, append_assoc}
+use Rattle.std.specs.Prelude.{Ok, ◌&&◌, codes, is_some, min, nat_le, nat_lt}
 use Rattle.std.specs.List.{AllByRecursion, IsDistinct}
 use Rattle.std.specs.Str.{bytes_eq}
 use Rattle.std.proofs.lemmas.Bool.{false≢true, leb-false}
 use Rattle.std.proofs.lemmas.Map.Keys.{IsDistinct-cons, IsDistinct-head, IsDistinct-tail}
-use Rattle.std.proofs.lemmas.List.{append-nil, map-append}
+use Rattle.std.proofs.lemmas.List.{map-append}
 use Rattle.fm_base.specs.Truth.{is_bool}
 use Rattle.fm_base.specs.declared.formula.Formula.{Formula}
 use Rattle.fm_base.specs.declared.refusal.Place.{Place}
@@ -18,15 +18,15 @@ use Rattle.fm_script.specs.Shown.{Name, Numeral, Shown}
 use Rattle.fm_levels.specs.Levels.{in_newest, joined, put}
 use Rattle.fm_levels.specs.Tables.{AreDistinct, has, looked_up}
 use Rattle.fm_levels.proofs.Tabling.{bytes_flip}
-use Rattle.fm_apply.specs.Applied.{Context, Function, and_then, function_by, same_type}
+use Rattle.fm_apply.specs.Applied.{Context, Function, and_then, same_type}
 use Rattle.fm_terms.specs.Elaborate.{elaborated, items_in, repeated, unless_repeated}
 use Rattle.fm_terms.specs.Scoped.{names_of}
 use Rattle.fm_elab.specs.Fresh.{AreNew}
 use Rattle.fm_elab.specs.NameLaw.{AreNamesDistinct, IsNamedState, IsNew, functions_named, sorts_named, symbols_named}
-use Rattle.fm_elab.specs.SortLaw.{Front, front}
+use Rattle.fm_elab.specs.SortLaw.{front}
 use Rattle.fm_elab.specs.Sizes.{is_large}
 use Rattle.fm_elab.specs.Stacks.{State, closed, is_barred, is_function_taken, is_named, is_sort_taken, level_count, next_function, next_sort, opened, put_all, signature, sort_names, start, symbol_names, with_assertion, with_declared_sort, with_definitions, with_sort, with_symbol}
-use Rattle.fm_elab.specs.Steps.{Next, argument_sort, assert_term, asserted, context_at, count_of, declare_function, declare_sort, define_function, define_sort, defined, definition, each_sort, formula_of, given_in, has_members, is_logic, is_true_name, pop, push, refused_where, set_logic, set_option, sort_at, step_of}
+use Rattle.fm_elab.specs.Steps.{Next, argument_sort, assert_term, asserted, context_at, count_of, declare_function, declare_sort, define_function, define_sort, defined, definition, each_sort, formula_of, given_in, has_members, is_logic, is_true_name, pop, push, refused_where, set_option, sort_at, step_of}
 use Rattle.fm_elab.proofs.FreshNames.{apart_from, defined_is_new, elaborated_fresh, given_are_new, named_last, neither}
 use Rattle.fm_elab.proofs.Placing.{length_fewer, length_more, length_put, length_put_all}
 use Rattle.fm_elab.proofs.SortedCore.{went_on}
@@ -456,6 +456,7 @@ steps_keep_names text s t (Shown.Echo at literal) h e = unchanged s t h e
 pub problem_named : (s : State) → IsNamedState s → AreDistinct (sort_names s) × AreDistinct (symbol_names s)
 problem_named s h =
     let n = length s.assertions in
-    let w = h.fronts n in
-    (subst (λ (es : List (List ℕ × Ty)). AreDistinct (sorts_named es)) (front_of_all n s.declared_sorts h.declared_sorts) w.declared_sorts,
-     subst (λ (es : List (List ℕ × Rank)). AreDistinct (symbols_named es)) (front_of_all n s.symbols h.symbols) w.symbols)
+    let w = h.fronts n in (
+      subst (λ (es : List (List ℕ × Ty)). AreDistinct (sorts_named es)) (front_of_all n s.declared_sorts h.declared_sorts) w.declared_sorts,
+      subst (λ (es : List (List ℕ × Rank)). AreDistinct (symbols_named es)) (front_of_all n s.symbols h.symbols) w.symbols,
+    )

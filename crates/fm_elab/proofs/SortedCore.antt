@@ -1,5 +1,5 @@
 -- What functions and the operators of Core make of well sorted terms is well sorted.
-use Rattle.std.proofs.Common.{◌≡◌, ℕ, zero, suc, ◌==◌, Bool, true, false, cond, List, [], ◌∷◌, map, length, Option, Some, None, ap, refl, sym, subst, ◌∙◌, arith}
+use Rattle.std.proofs.Common.{◌≡◌, ℕ, suc, ◌==◌, Bool, true, false, cond, List, [], ◌∷◌, length, Option, Some, None, ap, refl, sym, subst, arith}
 use Rattle.std.specs.Prelude.{Err, Ok, Result, codes}
 use Rattle.std.specs.List.{AllByRecursion}
 use Rattle.std.specs.Str.{bytes_eq}
@@ -10,7 +10,6 @@ use Rattle.fm_base.specs.declared.ids.SymId.{SymId}
 use Rattle.fm_base.specs.declared.refusal.Place.{Place}
 use Rattle.fm_base.specs.declared.refusal.Reason.{Reason}
 use Rattle.fm_base.specs.declared.refusal.Refusal.{Refusal}
-use Rattle.fm_base.specs.declared.signature.Rank.{Rank}
 use Rattle.fm_base.specs.declared.signature.Sig.{Sig}
 use Rattle.fm_base.specs.declared.signature.Ty.{Ty}
 use Rattle.fm_sexp.specs.declared.items.Sexp.{Sexp}
@@ -19,10 +18,9 @@ use Rattle.fm_script.specs.Commands.{bad_shape, place_of_item}
 use Rattle.fm_arena.specs.Measures.{is_fit}
 use Rattle.fm_arena.specs.Meanings.{Meaning, Term, applied, made, measure_of}
 use Rattle.fm_arena.specs.declared.node.Op.{Op}
-use Rattle.fm_arena.specs.declared.node.Tree.{Tree}
-use Rattle.fm_apply.specs.Applied.{Context, Function, Stands, all_bool, all_of, and_then, applied_at, constant_of, core_at, core_constant, differs_at, distinct_at, equal_at, first_wrong, fits_at, function_at, implied_at, implies_at, is_operator, is_truth, later_core_at, made_at, meanings, neighbours_from, op_of, refused, same_at, same_type, several_at, stands_at, type_among, unless_large, unless_wrong, used_at, xor_at, xor_from}
-use Rattle.fm_elab.specs.Sorted.{IsSortedFunction, IsSortedMeaning, IsSortedTerm, IsSortedTree, Known, StandsSorted, parameters, takes_no_truth}
-use Rattle.fm_elab.proofs.SortedTrees.{AreAllSorted, AreSortedTrees, and_sorted, app_sorted, chosen_op, distinct_sorted, equal_sorted, iff_sorted, ite_sorted, not_sorted, or_sorted, pred_sorted, truth_sorted}
+use Rattle.fm_apply.specs.Applied.{Context, Function, Stands, all_bool, all_of, and_then, applied_at, constant_of, core_at, core_constant, differs_at, distinct_at, equal_at, first_wrong, fits_at, function_at, implied_at, implies_at, is_operator, is_truth, later_core_at, made_at, meanings, neighbours_from, op_of, refused, same_at, same_type, several_at, stands_at, type_among, unless_large, unless_wrong, xor_at, xor_from}
+use Rattle.fm_elab.specs.Sorted.{IsSortedFunction, IsSortedMeaning, IsSortedTerm, Known, StandsSorted}
+use Rattle.fm_elab.proofs.SortedTrees.{and_sorted, app_sorted, chosen_op, distinct_sorted, equal_sorted, iff_sorted, ite_sorted, not_sorted, or_sorted, pred_sorted, truth_sorted}
 use Rattle.fm_elab.proofs.SortedTerms.{AllSorted, Builds, all_one, applied_sorted, made_sorted, types_of}
 
 -- one of two answers
@@ -130,8 +128,8 @@ applied_is : (known : Known) (sig : Sig) (c : Context) (at : Place) (xs : List S
 applied_is known sig c at xs ts tys op ty t l a b h =
     either (length ts == length tys) (unless_wrong (first_wrong tys ts xs) (made_at c op ty ts)) (Err (refused Reason.Arity at)) (Ok t) h
     (λ n e.
-        let w = unless_wrong_is (first_wrong tys ts xs) (made_at c op ty ts) t e in
-        (made_is known sig c op ty ts tys t a (right_types tys ts xs (eqb-true (length ts) (length tys) n) l w.0) b w.1).1)
+    let w = unless_wrong_is (first_wrong tys ts xs) (made_at c op ty ts) t e in
+    (made_is known sig c op ty ts tys t a (right_types tys ts xs (eqb-true (length ts) (length tys) n) l w.0) b w.1).1)
     (λ n e. absurd (no_answer (refused Reason.Arity at) t e))
 
 -- a function in force, applied
@@ -139,8 +137,8 @@ pub fits_sorted : (known : Known) (sig : Sig) (c : Context) (at : Place) (xs : L
 fits_sorted known sig c at xs ts f t l a s h =
     either (length ts == length f.args) (unless_wrong (first_wrong f.args ts xs) (stands_at c f.stands f.result ts)) (Err (refused Reason.Arity at)) (Ok t) h
     (λ n e.
-        let w = unless_wrong_is (first_wrong f.args ts xs) (stands_at c f.stands f.result ts) t e in
-        (stands_sorted known sig c f.stands f.args f.result ts t s a (right_types f.args ts xs (eqb-true (length ts) (length f.args) n) l w.0) w.1).1)
+    let w = unless_wrong_is (first_wrong f.args ts xs) (stands_at c f.stands f.result ts) t e in
+    (stands_sorted known sig c f.stands f.args f.result ts t s a (right_types f.args ts xs (eqb-true (length ts) (length f.args) n) l w.0) w.1).1)
     (λ n e. absurd (no_answer (refused Reason.Arity at) t e))
 
 -- operators of two or more of one type

@@ -17,8 +17,8 @@ use Rattle.fm_base.specs.declared.signature.Ty.{Ty}
 use Rattle.fm_sexp.specs.declared.items.Sexp.{Sexp}
 use Rattle.fm_script.specs.Shown.{Name}
 use Rattle.fm_script.specs.Commands.{bad_shape, members_of, name_of, parameters_in, place_of_item, symbol_of}
-use Rattle.fm_arena.specs.Meanings.{Meaning, Term, named, quantified}
-use Rattle.fm_apply.specs.Applied.{Bound, Context, Function, Named, Sort, Stands, and_then, constant_of, function_at, function_by, function_named, in_force, is_taken, or_else, refused, unless_large}
+use Rattle.fm_arena.specs.Meanings.{Term, named, quantified}
+use Rattle.fm_apply.specs.Applied.{Bound, Context, Function, Named, Sort, and_then, constant_of, function_at, function_by, function_named, in_force, is_taken, or_else, refused, unless_large}
 use Rattle.fm_terms.specs.Elaborate.{Answer, Attribute, Go, Read, Reads, all_at, annotated_at, annotated_with, application_at, applied_to, attribute_at, attributes_at, attributes_of, bound_to, by_bound, by_head, closes_at, elaborated, is_list, is_word, items_in, let_at, let_over, let_with, list_at, name_in, named_at, nesting, newest_from, none_read, outside, pairs_in, quantified_at, quantifier_at, quantifier_over, quantifier_with, read_at, read_of, repeated, sort_named, term_at, term_step, unless_again, unless_repeated, variable_sort, variable_sort_in, variable_sorts, variables_at, variables_named, with_bound, with_name, with_read, word_at}
 use Rattle.fm_elab.specs.Sorted.{AreAnywhere, AreBelow, AreSortedFrom, IsSortedAnywhere, IsSortedContext, IsSortedFunction, IsSortedMeaning, IsSortedRead, IsSortedTerm, Known, nothing_known, parameters}
 use Rattle.fm_elab.proofs.SortedTerms.{AllSorted, name_sorted, of_variable, quantified_sorted, wider_sorted, with_variables}
@@ -180,11 +180,11 @@ let_read sig go g c ps u xs rs r s k h =
     subst (IsSortedRead sig c) (read_is (read_of w.0.named low w.0.term) r w.2)
     (record {
       term = λ known below from.
-        let terms = k.terms known below (from_lower known sig low rs.low c.bound (omega arith) from) in
-        one.term known below (λ i b l e.
-        get_either c.bound (bound_to ps rs.terms) i b e
-        (λ q. from i b (omega (arith, l)) q)
-        (λ j p q. bound_sorted known sig ps rs.terms j b terms q));
+          let terms = k.terms known below (from_lower known sig low rs.low c.bound (omega arith) from) in
+          one.term known below (λ i b l e.
+          get_either c.bound (bound_to ps rs.terms) i b e
+          (λ q. from i b (omega (arith, l)) q)
+          (λ j p q. bound_sorted known sig ps rs.terms j b terms q));
       named = one.named;
     })
 
@@ -329,7 +329,7 @@ block_sorted : (sig : Sig) (c : Context) (all : Bool) (ps : List (Name × Sexp))
 block_sorted sig c all ps ss t q low known v b e inner below from =
     let wide = with_variables c.places ss known in
     let body : IsSortedMeaning wide sig Ty.Bool t.meaning =
-        subst (λ (ty : Ty). IsSortedMeaning wide sig ty t.meaning) b (inner wide (below_within known c.places ss) (from_within known sig c.places low c.bound ps ss below from)) in
+    subst (λ (ty : Ty). IsSortedMeaning wide sig ty t.meaning) b (inner wide (below_within known c.places ss) (from_within known sig c.places low c.bound ps ss below from)) in
     subst (IsSortedTerm known sig) e (quantified_sorted known sig all ss c.places t.meaning v body)
 
 over_read : (sig : Sig) (go : Go) → Keeps sig go → (c : Context) (ns : List Named) (all : Bool) (ps : List (Name × Sexp)) (u : Sexp) (ss : List SortId) (r : Read) → IsSortedContext sig c → AreAnywhere sig ns → are_there sig ss ≡ true → quantifier_over go c ns all ps u ss ≡ Ok r → IsSortedRead sig c r

@@ -1,12 +1,12 @@
 -- Every command leaves an assertion stack well sorted.
 use Rattle.std.proofs.Common.{◌≡◌, ℕ, zero, suc, ◌+◌, ◌-◌, ◌<◌, ◌≤◌, ◌==◌, Bool, true, false, not, cond, List, [], ◌∷◌, ◌++◌, map, length, take, Option, Some, None, ap, refl, sym, subst, ◌∙◌, arith}
-use Rattle.std.specs.Prelude.{Err, Ok, Result, ◌&&◌, ◌||◌, codes, min, nat_le, nat_lt, slice_get}
+use Rattle.std.specs.Prelude.{Err, Ok, Result, ◌&&◌, codes, min, nat_le, nat_lt, slice_get}
 use Rattle.std.specs.List.{All, AllByRecursion, list_all}
 use Rattle.std.specs.Str.{bytes_eq}
 use Rattle.std.proofs.lemmas.Bool.{and_parts, and_from, false≢true, leb-false, lt-ltb, ltb-true}
-use Rattle.std.proofs.lemmas.List.{append-nil, length-append, map-append}
+use Rattle.std.proofs.lemmas.List.{length-append, map-append}
 use Rattle.std.proofs.lemmas.Option.{slice_get_within}
-use Rattle.fm_base.specs.Interpretations.{is_sort_of, names_its_sorts}
+use Rattle.fm_base.specs.Interpretations.{is_sort_of}
 use Rattle.fm_base.specs.Truth.{is_bool, is_closed}
 use Rattle.fm_base.specs.declared.formula.Formula.{Formula}
 use Rattle.fm_base.specs.declared.refusal.Place.{Place}
@@ -18,18 +18,17 @@ use Rattle.fm_base.specs.declared.signature.Ty.{Ty}
 use Rattle.fm_sexp.specs.declared.items.Sexp.{Sexp}
 use Rattle.fm_script.specs.Commands.{members_of, name_of, place_of_item}
 use Rattle.fm_script.specs.Shown.{Name, Numeral, Shown}
-use Rattle.fm_arena.specs.Meanings.{Term, named, no_names}
-use Rattle.fm_arena.specs.Trees.{formula_in}
+use Rattle.fm_arena.specs.Meanings.{named, no_names}
 use Rattle.fm_levels.specs.Levels.{in_newest, joined, put}
 use Rattle.fm_levels.specs.Tables.{looked_up}
-use Rattle.fm_apply.specs.Applied.{Bound, Context, Function, Named, Sort, Stands, and_then, function_by, refused, same_type}
+use Rattle.fm_apply.specs.Applied.{Bound, Context, Function, Named, Sort, and_then, function_by, refused, same_type}
 use Rattle.fm_terms.specs.Elaborate.{Read, elaborated, items_in, repeated, unless_repeated}
 use Rattle.fm_terms.specs.Scoped.{bound_to_terms, names_of, parameters_from}
-use Rattle.fm_elab.specs.Sorted.{AreAnywhere, AreBelow, AreSortedFrom, IsSortedContext, IsSortedFunction, IsSortedMeaning, IsSortedRead, IsSortedTerm, Known, nothing_known, parameters, takes_no_truth}
-use Rattle.fm_elab.specs.SortLaw.{AreSorts, Front, Includes, IsLastingFormula, IsLastingFunction, IsLow, IsSortedFront, IsSortedProblem, IsSortedState, front, front_signature, ranks_in, take_no_truths}
+use Rattle.fm_elab.specs.Sorted.{AreAnywhere, AreSortedFrom, IsSortedContext, IsSortedFunction, IsSortedMeaning, IsSortedRead, IsSortedTerm, Known, nothing_known, parameters, takes_no_truth}
+use Rattle.fm_elab.specs.SortLaw.{AreSorts, Front, Includes, IsLastingFormula, IsLastingFunction, IsSortedFront, IsSortedProblem, IsSortedState, front, front_signature, ranks_in, take_no_truths}
 use Rattle.fm_elab.specs.Sizes.{is_large}
-use Rattle.fm_elab.specs.Stacks.{State, assertions_in_force, closed, fewer_levels, is_function_taken, is_named, is_sort_taken, level_count, more_levels, next_function, next_sort, opened, put_all, signature, start, with_assertion, with_declared_sort, with_definitions, with_sort, with_symbol}
-use Rattle.fm_elab.specs.Steps.{Next, argument_sort, assert_term, asserted, context_at, count_of, declare_function, declare_sort, define_function, define_sort, defined, definition, each_sort, formula_of, found_sort, given_in, has_members, is_logic, is_true_name, pop, push, refused_where, set_logic, set_option, sort_at, sort_by_name, sort_entry, step_of}
+use Rattle.fm_elab.specs.Stacks.{State, closed, fewer_levels, is_function_taken, is_sort_taken, level_count, more_levels, next_function, next_sort, opened, put_all, signature, start, with_assertion, with_declared_sort, with_definitions, with_sort, with_symbol}
+use Rattle.fm_elab.specs.Steps.{Next, argument_sort, assert_term, asserted, context_at, count_of, declare_function, declare_sort, define_function, define_sort, defined, definition, each_sort, formula_of, found_sort, given_in, has_members, is_logic, is_true_name, pop, push, refused_where, set_option, sort_at, sort_by_name, sort_entry, step_of}
 use Rattle.fm_elab.proofs.Placing.{length_fewer, length_more, length_put, length_put_all}
 use Rattle.fm_elab.proofs.SortedTerms.{name_sorted, wider_sorted}
 use Rattle.fm_elab.proofs.SortedCore.{either, went_on}

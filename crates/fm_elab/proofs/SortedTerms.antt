@@ -1,22 +1,20 @@
 -- Meanings that are made of well sorted ones are well sorted.
-use Rattle.std.proofs.Common.{◌≡◌, ℕ, zero, suc, ◌+◌, ◌-◌, ◌<◌, ◌≤◌, Bool, true, false, cond, List, [], ◌∷◌, ◌++◌, map, length, Option, Some, None, ap, refl, sym, subst, ◌∙◌, arith, append_assoc}
+use Rattle.std.proofs.Common.{◌≡◌, ℕ, zero, suc, ◌+◌, ◌-◌, Bool, true, false, cond, List, [], ◌∷◌, ◌++◌, map, length, Option, Some, None, ap, refl, sym, subst, ◌∙◌, arith, append_assoc}
 use Rattle.std.specs.Prelude.{get_or, nat_lt, slice_get}
 use Rattle.std.specs.List.{AllByRecursion, list_all}
-use Rattle.std.specs.Option.{option_map}
 use Rattle.std.proofs.lemmas.Bool.{and_from}
 use Rattle.std.proofs.lemmas.List.{append-nil, length-append}
-use Rattle.fm_base.specs.Truth.{is_bool, is_of_sort, is_well_sorted, sort_of}
+use Rattle.fm_base.specs.Truth.{is_bool, is_well_sorted, sort_of}
 use Rattle.fm_base.specs.declared.ids.SortId.{SortId}
 use Rattle.fm_base.specs.declared.signature.Sig.{Sig}
 use Rattle.fm_base.specs.declared.signature.Ty.{Ty}
-use Rattle.fm_base.specs.declared.formula.Fterm
 use Rattle.fm_base.specs.declared.formula.Fterm.{Fterm}
-use Rattle.fm_arena.specs.Meanings.{Meaning, Names, Placed, Term, applied, given, inside, made, meanings_at, named, nowhere, quantified}
+use Rattle.fm_arena.specs.Meanings.{Meaning, Names, Term, applied, given, inside, made, meanings_at, named, nowhere, quantified}
 use Rattle.fm_arena.specs.Trees.{built, formula_in}
 use Rattle.fm_arena.specs.declared.node.Op.{Op}
 use Rattle.fm_arena.specs.declared.node.Tree.{Tree}
 use Rattle.fm_apply.specs.Applied.{all_of, meanings}
-use Rattle.fm_elab.specs.Sorted.{AreBelow, AreSortedNames, IsSortedMeaning, IsSortedTerm, IsSortedTree, Known, parameters}
+use Rattle.fm_elab.specs.Sorted.{AreSortedNames, IsSortedMeaning, IsSortedTerm, IsSortedTree, Known, parameters}
 use Rattle.fm_elab.proofs.SortedTrees.{AreAllSorted, AreSortedTrees, sort_from, sort_of_var, sorted_of_quant}
 
 -- names
@@ -123,6 +121,6 @@ quantified_sorted known sig all vars base body v h scope names n =
     let inner : Names = inside base (length scope) names in
     let there : AreSortedNames (with_variables base vars known) sig (scope ++ vars) inner = λ place ty more k. inside_at known sig scope vars more names base place ty (nat_lt place base) n k in
     let below : is_well_sorted (formula_in (body inner (length scope + length vars))) sig (scope ++ vars) ≡ true =
-        subst (λ (d : ℕ). is_well_sorted (formula_in (body inner d)) sig (scope ++ vars) ≡ true) (length-append scope vars) (h (scope ++ vars) inner there) in
+    subst (λ (d : ℕ). is_well_sorted (formula_in (body inner d)) sig (scope ++ vars) ≡ true) (length-append scope vars) (h (scope ++ vars) inner there) in
     sorted_of_quant all vars (formula_in (body inner (length scope + length vars))) sig scope
     ∙ and_from (list_all (λ (s : SortId). nat_lt s.0 sig.sorts) vars) (is_well_sorted (formula_in (body inner (length scope + length vars))) sig (scope ++ vars)) v below

@@ -1,9 +1,9 @@
 -- What an operator makes of well sorted trees is well sorted.
-use Rattle.std.proofs.Common.{◌≡◌, ℕ, Bool, true, false, not, cond, List, [], ◌∷◌, ◌++◌, map, Option, Some, None, ap, refl, sym, subst, ◌∙◌, arith}
+use Rattle.std.proofs.Common.{◌≡◌, ℕ, Bool, true, cond, List, [], ◌∷◌, ◌++◌, map, Option, Some, None, ap, refl, ◌∙◌}
 use Rattle.std.specs.Prelude.{◌&&◌, nat_lt, slice_get}
 use Rattle.std.specs.List.{list_all}
 use Rattle.std.proofs.lemmas.Bool.{and_parts, and_from, eqb-true, eq-eqb, false≢true}
-use Rattle.fm_base.specs.Truth.{Sorted, Sort, all_sorted, are_arguments, declared_sort, have_one_sort, is_bool, is_of_sort, is_predicate_of, is_well_sorted, result_of, sort_of, sort_step, sorted_step}
+use Rattle.fm_base.specs.Truth.{Sorted, Sort, all_sorted, are_arguments, have_one_sort, is_bool, is_of_sort, is_predicate_of, is_well_sorted, result_of, sort_of, sort_step, sorted_step}
 use Rattle.fm_base.specs.declared.ids.SortId.{SortId}
 use Rattle.fm_base.specs.declared.ids.SymId.{SymId}
 use Rattle.fm_base.specs.declared.signature.Rank.{Rank}
@@ -18,7 +18,7 @@ use Rattle.fm_base.specs.declared.formula.Formula.TheFolds.{fold-roll-Formula, f
 use Rattle.fm_arena.specs.Trees.{all_apart, apart, built, formula_in, thing_in}
 use Rattle.fm_arena.specs.declared.node.Op.{Op}
 use Rattle.fm_arena.specs.declared.node.Tree.{Tree}
-use Rattle.fm_elab.specs.Sorted.{IsSortedTree, is_sorted_tree, takes_no_truth}
+use Rattle.fm_elab.specs.Sorted.{IsSortedTree, takes_no_truth}
 
 -- each constructor
 

@@ -8,7 +8,7 @@ use Rattle.fm_script.specs.Shown.{Shown}
 use Rattle.fm_levels.specs.Tables.{AreDistinct}
 use Rattle.fm_apply.specs.Applied.{Function}
 use Rattle.fm_elab.specs.SortLaw.{Front, front}
-use Rattle.fm_elab.specs.Stacks.{State, sort_names, start, symbol_names}
+use Rattle.fm_elab.specs.Stacks.{State, sort_names, symbol_names}
 use Rattle.fm_elab.specs.Steps.{step_of}
 
 abbrev pub sorts_named : List (List ℕ × Ty) → List (List ℕ)

@@ -1,6 +1,6 @@
 -- Which assertions are too large: those of which a normal form has more than 1,000,000 nodes, be it that of the lifted
 -- formula or of one of its definitions.
-use Rattle.std.specs.Prelude.{ℕ, Bool, nat_lt, List, ◌∷◌, length}
+use Rattle.std.specs.Prelude.{Bool, nat_lt, ◌∷◌, length}
 use Rattle.std.specs.List.{list_any}
 use Rattle.fm_base.specs.declared.formula.Formula.{Formula}
 use Rattle.fm_base.specs.declared.signature.Sig.{Sig}

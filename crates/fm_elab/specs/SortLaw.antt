@@ -12,7 +12,7 @@ use Rattle.fm_script.specs.Shown.{Shown}
 use Rattle.fm_levels.specs.Levels.{joined}
 use Rattle.fm_apply.specs.Applied.{Function}
 use Rattle.fm_elab.specs.Sorted.{IsSortedFunction, takes_no_truth}
-use Rattle.fm_elab.specs.Stacks.{State, assertions_in_force, signature, start}
+use Rattle.fm_elab.specs.Stacks.{State, assertions_in_force, signature}
 use Rattle.fm_elab.specs.Steps.{step_of}
 
 -- a signature that has the sorts and functions of another

@@ -4,7 +4,6 @@ use Rattle.std.specs.List.{AllByRecursion, list_all}
 use Rattle.fm_base.specs.Interpretations.{is_sort_of}
 use Rattle.fm_base.specs.Truth.{is_bool, is_of_sort, is_well_sorted, sort_of}
 use Rattle.fm_base.specs.declared.ids.SortId.{SortId}
-use Rattle.fm_base.specs.declared.signature.Rank.{Rank}
 use Rattle.fm_base.specs.declared.signature.Sig.{Sig}
 use Rattle.fm_base.specs.declared.signature.Ty.{Ty}
 use Rattle.fm_arena.specs.Meanings.{Meaning, Names, Term}

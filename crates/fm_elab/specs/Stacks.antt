@@ -1,6 +1,6 @@
 -- The assertion stack (SMT-LIB 2.6): what is in force, level by level. The first level is never closed. The levels are told
 -- by kind of entry: the i-th list of each kind is what the i-th level has of that kind.
-use Rattle.std.specs.Prelude.{ℕ, ◌-◌, Bool, true, false, ◌||◌, cond, List, [], ◌∷◌, ◌++◌, length, map, take, replicate}
+use Rattle.std.specs.Prelude.{ℕ, ◌-◌, Bool, true, false, ◌||◌, List, [], ◌∷◌, ◌++◌, length, map, take, replicate}
 use Rattle.std.specs.List.{list_any}
 use Rattle.std.specs.Str.{bytes_eq}
 use Rattle.fm_base.specs.declared.formula.Formula.{Formula}

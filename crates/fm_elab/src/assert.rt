@@ -1,8 +1,8 @@
-ghost use Rattle.std.specs.Prelude.{◌≡◌, ◌<◌, ℕ, false, true, length, IfOk, OnErr, OnOk};
+ghost use Rattle.std.specs.Prelude.{◌≡◌, ◌<◌, ◌≤◌, [], ℕ, false, true, length, IfOk, OnErr, OnOk};
 ghost use Rattle.fm_sexp.specs.Items.{spans_within};
 ghost use Rattle.fm_arena.specs.Meanings.{terms_of};
 ghost use Rattle.fm_levels.specs.Levels.{in_newest, joined};
-ghost use Rattle.fm_apply.specs.Scoped.{AreBelow, AreInForce, Grows};
+ghost use Rattle.fm_apply.specs.Scoped.{AreBelow, AreInForce, Grows, StandBefore};
 ghost use Rattle.fm_elab.specs.Givens.{DefinesAll, Extends, given_at, new_asserted, read_in, with_new_assertion};
 ghost use Rattle.fm_elab.specs.Held.{state_of};
 ghost use Rattle.fm_elab.specs.Sizes.{is_large as is_large_of};
@@ -82,8 +82,48 @@ impl<'a> Scopes<'a> {
         }
     }
 
+    // Adds an assertion in which no name was given; nothing of its term stays in the arena.
+    fn add_plain(&mut self, formula: Formula, mark: usize) -> Result<(), Memory>
+        requires mark { mark ≤ length (terms_of self.old.entries) }
+        requires before { StandBefore mark (joined self.old.functions) }
+        ensures added { OnOk result (state_of self.new ≡ with_new_assertion (state_of self.old) [] formula) }
+        ensures err { OnErr result (state_of self.new ≡ state_of self.old) }
+    {
+        match self.assertions.insert(formula) {
+            Ok(()) => {
+                self.arena.cut_back(mark);
+                self.begun = true;
+                Ok(())
+            }
+            Err(fail) => Err(fail),
+        }
+    }
+
+    // Adds an assertion and the names that were given in it, or nothing. The functions in force stand before the mark.
+    fn add(&mut self, formula: Formula, given: Table<'a, usize>, mark: usize) -> Result<(), Memory>
+        requires given { AreBelow (length (terms_of self.old.entries)) given }
+        requires mark { mark ≤ length (terms_of self.old.entries) }
+        requires before { StandBefore mark (joined self.old.functions) }
+        ensures added { OnOk result (state_of self.new ≡ with_new_assertion (state_of self.old)
+            (given_at self.old.entries given.entry) formula) }
+        ensures err { OnErr result (state_of self.new ≡ state_of self.old) }
+    {
+        if given.len() == 0 {
+            return self.add_plain(formula, mark);
+        }
+        self.add_assertion(formula, given)
+    }
+
     // Adds an assertion whose term was elaborated, where the term is a formula and isn't too large.
-    fn asserted(&mut self, at: Place, item: &Sexp, term: Elaborated<'a>) -> Result<(), Fail>
+    fn asserted(
+        &mut self,
+        at: Place,
+        item: &Sexp,
+        term: Elaborated<'a>,
+        mark: usize,
+    ) -> Result<(), Fail>
+        requires mark { mark ≤ length (terms_of self.old.entries) }
+        requires before { StandBefore mark (joined self.old.functions) }
         requires number { term.number < length (terms_of self.old.entries) }
         requires given { AreBelow (length (terms_of self.old.entries)) term.given }
         ensures { (low : ℕ) → Applies result (state_of self.old)
@@ -101,7 +141,7 @@ impl<'a> Scopes<'a> {
             Ok(true) => return Err(refuse(Reason::TooLarge, at)),
             Ok(false) => {}
         }
-        match self.add_assertion(formula, given) {
+        match self.add(formula, given, mark) {
             Err(_) => Err(Fail::Memory),
             Ok(()) => Ok(()),
         }
@@ -114,9 +154,10 @@ impl<'a> Scopes<'a> {
             (state_of self.new) }
     {
         let names = NameSet::new(self.alloc);
+        let mark = self.arena.mark();
         match self.elaborate(text, at, None, true, names, &[], item) {
             Err(fail) => Err(fail),
-            Ok(term) => self.asserted(at, item, term),
+            Ok(term) => self.asserted(at, item, term, mark),
         }
     }
 }

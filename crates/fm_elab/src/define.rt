@@ -3,7 +3,7 @@ ghost use Rattle.std.specs.Option.{option_map};
 ghost use Rattle.fm_sexp.specs.Items.{spans_within};
 ghost use Rattle.fm_script.specs.Shown.{name_shown};
 ghost use Rattle.fm_arena.specs.Meanings.{terms_of};
-ghost use Rattle.fm_apply.specs.Scoped.{AreBelow};
+ghost use Rattle.fm_apply.specs.Scoped.{AreBelow, Grows};
 ghost use Rattle.fm_terms.specs.Elaborate.{elaborated};
 ghost use Rattle.fm_terms.specs.Scoped.{ArePairsWithin, IsElaborated, LeavesGiven, shown_pairs};
 ghost use Rattle.fm_elab.specs.Givens.{definitions_at, new_defined, read_in, with_new_definitions};
@@ -39,6 +39,8 @@ impl<'a> Scopes<'a> {
             IsElaborated self.new.entries result (elaborated c item.now) }
         ensures same { state_of self.new ≡ state_of self.old }
         ensures below { LeavesGiven self.new.entries result }
+        ensures functions { self.new.functions ≡ self.old.functions }
+        ensures grows { Grows self.old.entries self.new.entries }
     {
         let scope = Scope {
             text,

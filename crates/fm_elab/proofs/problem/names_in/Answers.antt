@@ -1,4 +1,4 @@
-use Rattle.std.proofs.Common.{List, ap, map, refl, sym, ◌∙◌, ℕ}
+use Rattle.std.proofs.Common.{ap, map, refl, sym, ◌∙◌}
 use Rattle.fm_levels.specs.Levels.{joined}
 use Rattle.fm_elab.specs.Shown.{names_shown}
 use Rattle.fm_elab.proofs.Holding.{each_none, each_step, names_push}

@@ -1,4 +1,4 @@
-use Rattle.std.proofs.Common.{List, drop, map, ◌++◌, ◌≡◌, ℕ}
+use Rattle.std.proofs.Common.{drop, map, ◌++◌, ◌≡◌}
 use Rattle.fm_levels.specs.Levels.{joined}
 use Rattle.fm_elab.specs.Shown.{names_shown}
 use Rattle.fm_elab.proofs.problem.names_in.Given as goal
