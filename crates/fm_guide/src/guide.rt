@@ -34,7 +34,8 @@ impl Guide for Fixed {
         ensures answer { result ≡ self.old.0 }
         ensures kept { self.new ≡ self.old }
     {
-        self.0
+        let Fixed(number) = *self;
+        number
     }
 }
 

@@ -7,6 +7,8 @@ mod expect;
 mod guide;
 mod laws;
 mod menu;
+#[cfg(test)]
+mod tests;
 mod watch;
 
 pub use event::{Event, Word};

@@ -15,4 +15,5 @@ pub mod Counts
 pub mod Worked
 pub mod Readers
 pub mod Menus
+pub mod Deciding
 pub mod Ready

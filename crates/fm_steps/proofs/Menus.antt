@@ -274,3 +274,14 @@ module _ (p : Problem) (s : State) (k : Known) where
       let b = past 5 6 (decisions_of s) rest_six o (decisions s) (omega (arith, e)) a.1 in
       let c = past 5 6 (splits_of s) (last_offer p s k ∷ []) o (splits s) (omega (arith, e)) b.1 in
       only_one (last_offer p s k) o c.1
+
+  pub at_five : (o : Offer) → 4 < kind o → kind o < 7 → Has (menu_of p s k) o → Has (decisions_of s) o ⊎ Has (splits_of s) o
+  at_five o low high h =
+      let a = past 4 4 (turns_of s) rest_five o (turns s) low (after_three o (omega (arith, low)) h) in
+      elim (else_cases (decisions_of s) rest_six o a.1) [
+        | inl q ↦ inl q
+        | inr q ↦ elim (else_cases (splits_of s) (last_offer p s k ∷ []) o q.1) [
+          | inl r ↦ inr r
+          | inr r ↦ (let m = (last p s k o r.1).0 in absurd (omega (arith, m, high)))
+        ]
+      ]

@@ -1,6 +1,6 @@
 ghost use Rattle.fm_steps.specs.Facts.{AtomsAreKnown, ClausesAreGuarded, HeadsAreWithin, InstancesAreCounted, IsLawful, PicksAreKnown, SizesAreAssumed, SmallerAreRefuted, TrailIsExplained};
 ghost use Rattle.fm_steps.specs.Readers.{ReadersCloseLevels, ReadersGoBack, ReadersStay};
-ghost use Rattle.fm_steps.specs.Ready.{InstanceIsReady, LearnIsReady, RaiseIsReady, SatIsReady, TakeIsReady, TurnIsReady, UnitIsReady, UnsatIsReady};
+ghost use Rattle.fm_steps.specs.Ready.{DecideIsReady, InstanceIsReady, LearnIsReady, RaiseIsReady, SatIsReady, SplitIsReady, TakeIsReady, TurnIsReady, UnitIsReady, UnsatIsReady};
 ghost use Rattle.fm_steps.specs.Laws.{AnswersEndRuns, HasAtStart, HoldsInRuns, IsKeptBySteps, IsLeftByMoves, RunsAreCounted, WrongEventsEndNoRun};
 
 /// The start is lawful, no positive size literal stands at level 0, and the equalities of its cliques are known. It is a
@@ -65,6 +65,8 @@ pub fn offers_are_ready()
     ensures unit { UnitIsReady }
     ensures take { TakeIsReady }
     ensures turn { TurnIsReady }
+    ensures decide { DecideIsReady }
+    ensures split { SplitIsReady }
     ensures instance { InstanceIsReady }
     ensures sat { SatIsReady }
     ensures raise { RaiseIsReady }

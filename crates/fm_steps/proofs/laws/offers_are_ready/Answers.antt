@@ -1,3 +1,4 @@
+use Rattle.fm_steps.proofs.Deciding.{decide_ready, split_ready}
 use Rattle.fm_steps.proofs.Ready.{instance_ready, learn_ready, raise_ready, sat_ready, take_ready, turn_ready, unit_ready, unsat_ready}
 use Rattle.fm_steps.proofs.laws.offers_are_ready.Goals as goal
 
@@ -24,3 +25,9 @@ returns-clause-sat c = sat_ready
 
 pub returns-clause-raise : goal.returns-clause-raise
 returns-clause-raise c = raise_ready
+
+pub returns-clause-decide : goal.returns-clause-decide
+returns-clause-decide c = decide_ready
+
+pub returns-clause-split : goal.returns-clause-split
+returns-clause-split c = split_ready
