@@ -7,6 +7,8 @@ mod linked;
 mod lookup;
 mod prefixes;
 mod search;
+#[cfg(test)]
+mod tests;
 mod values;
 
 pub use instances::failing;
