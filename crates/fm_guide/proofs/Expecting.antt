@@ -3,7 +3,7 @@ use Rattle.std.proofs.Common.{◌≡◌, ℕ, zero, suc, ◌≤◌, Bool, true, 
 use Rattle.std.specs.Prelude.{Option, ◌↔◌, nat_le}
 use Rattle.std.proofs.lemmas.Bool.{le-leb, leb-true}
 use Rattle.fm_guide.specs.declared.event.Event.{Event}
-use Rattle.fm_guide.specs.Watches.{AreAfter, IsAfter, IsFront}
+use Rattle.fm_guide.specs.Watches.{AreAfter, IsFront}
 
 -- once an event was another, nothing changes that
 stays_none : (es : List Event) (left : Option (List Event)) → AreAfter es None left → left ≡ None
