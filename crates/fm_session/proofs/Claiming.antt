@@ -1,5 +1,5 @@
 -- The blocks of items that were carried out are good for the problems of the text, and their claims hold.
-use Rattle.std.proofs.Common.{◌≡◌, ℕ, ◌+◌, Bool, true, false, cond, List, [], ◌∷◌, ◌++◌, length, Option, None, Some, Result, Ok, Err, refl, sym, ap, subst, ◌∙◌, arith, ◌⊎◌, inl, inr}
+use Rattle.std.proofs.Common.{◌≡◌, ℕ, ◌+◌, Bool, true, false, cond, List, [], ◌∷◌, ◌++◌, length, Option, None, Some, Result, Ok, Err, refl, sym, ap, subst, ◌∙◌, arith, inl, inr}
 use Rattle.std.proofs.lemmas.Bool.{cases_Bool, false≢true}
 use Rattle.std.specs.Str.{bytes_eq}
 use Rattle.std.specs.Prelude.{codes}
@@ -15,7 +15,7 @@ use Rattle.fm_elab.specs.Steps.{is_true_name, step_of}
 use Rattle.fm_session.specs.Effects.{Effect, effect_of, effect_where, info_effect, is_end, is_known, option_effect, unsupported}
 use Rattle.fm_session.specs.Problems.{going_on, in_force, is_check, is_exit, problem_where, problems_from, problems_with}
 use Rattle.fm_session.specs.Replies.{AreAnswered, AreBlocks, Past, refusal_by}
-use Rattle.fm_session.specs.Steps.{Goes, IsStep, Turn, next_read, turn_by, unless, with_stack}
+use Rattle.fm_session.specs.Steps.{Goes, Turn, next_read, unless, with_stack}
 use Rattle.fm_session.specs.declared.budget.Budget.{Budget}
 
 -- whether an effect is that of a `check-sat`

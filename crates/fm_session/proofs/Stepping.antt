@@ -1,10 +1,9 @@
 -- A command that was answered and carried out is a step, and a `check-sat` that was certified is answered.
-use Rattle.std.proofs.Common.{◌≡◌, ℕ, List, [], ◌∷◌, Bool, true, false, cond, Option, None, Some, Ok, Err, Result, refl, sym, ap, subst, ◌∙◌}
+use Rattle.std.proofs.Common.{◌≡◌, ℕ, List, [], ◌∷◌, Bool, true, false, Option, None, Some, Ok, Err, sym, ap, subst, ◌∙◌}
 use Rattle.std.specs.List.{flat_map}
 use Rattle.std.proofs.lemmas.Bool.{cond-true, cond-false}
 use Rattle.std.proofs.lemmas.List.{append-nil}
 use Rattle.fm_base.specs.declared.formula.Formula.{Formula}
-use Rattle.fm_base.specs.declared.refusal.Fail.{Fail}
 use Rattle.fm_base.specs.declared.refusal.Place.{Place}
 use Rattle.fm_base.specs.declared.refusal.Refusal.{Refusal}
 use Rattle.fm_base.specs.declared.signature.Sig.{Sig}
@@ -14,15 +13,14 @@ use Rattle.fm_script.specs.Shown.{Shown}
 use Rattle.fm_cert.specs.Claims.{ClaimHolds, IsGoodBlock}
 use Rattle.fm_cert.specs.Lines.{Problem}
 use Rattle.fm_cert.specs.Spelling.{spelling_of_block}
-use Rattle.fm_cert.specs.declared.block.Block.{Block}
 use Rattle.fm_elab.specs.Stacks.{State as Stack, assertions_in_force, signature}
 use Rattle.fm_elab.specs.Steps.{step_of}
 use Rattle.fm_thin.specs.Tabled.{tabled}
 use Rattle.fm_thin.specs.Thin.{are_thin}
 use Rattle.fm_session.specs.Effects.{Effect, effect_of}
-use Rattle.fm_session.specs.Making.{AnswersTo, IsCertified, Responds, blocks_in}
+use Rattle.fm_session.specs.Making.{AnswersTo, IsCertified, blocks_in}
 use Rattle.fm_session.specs.Problems.{in_force}
-use Rattle.fm_session.specs.Replies.{Past, check_refusal, not_yet, refusal_by, reply_to, words_of}
+use Rattle.fm_session.specs.Replies.{Past, check_refusal, not_yet, refusal_by, words_of}
 use Rattle.fm_session.specs.Steps.{IsMade, after, next_read, turn_by, unless, with_stack}
 use Rattle.fm_session.specs.declared.session.Answer.{Answer}
 

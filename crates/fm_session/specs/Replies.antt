@@ -1,5 +1,5 @@
 -- The reply to a command: a function of what stands, of the command and of the block of a `check-sat`.
-use Rattle.std.specs.Prelude.{◌≡◌, ℕ, ◌+◌, Bool, true, false, cond, Option, Some, None, List, [], ◌∷◌, ◌++◌, length, codes, decimal}
+use Rattle.std.specs.Prelude.{◌≡◌, ℕ, ◌+◌, Bool, true, false, cond, Option, Some, None, List, [], ◌∷◌, ◌++◌, codes, decimal}
 use Rattle.std.specs.List.{flat_map}
 use Rattle.fm_base.specs.Refusals.{reason_number, reason_text}
 use Rattle.fm_base.specs.declared.refusal.Place.{Place}

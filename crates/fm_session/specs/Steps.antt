@@ -1,5 +1,5 @@
 -- One command after another: what is refused, what each command answers, and what it leaves.
-use Rattle.std.specs.Prelude.{◌≡◌, ℕ, ◌+◌, Bool, true, false, Option, Some, None, Result, Ok, Err, List, [], ◌∷◌, ◌++◌, length}
+use Rattle.std.specs.Prelude.{◌≡◌, ℕ, ◌+◌, false, Option, Some, None, Result, Ok, Err, List, [], ◌∷◌, ◌++◌, length}
 use Rattle.std.specs.List.{flat_map}
 use Rattle.fm_base.specs.declared.refusal.Fail.{Fail}
 use Rattle.fm_base.specs.declared.refusal.Refusal.{Refusal}

@@ -1,6 +1,5 @@
 -- The block that answers thin assertions is good for them, its claim holds, and it can be printed.
-use Rattle.std.proofs.Common.{◌≡◌, ℕ, zero, suc, ◌+◌, ◌≤◌, true, ◌&&◌, List, [], ◌∷◌, length, Option, Some, None, ap, refl, sym, subst, ◌∙◌, arith}
-use Rattle.std.specs.Prelude.{slice_get}
+use Rattle.std.proofs.Common.{◌≡◌, ℕ, true, List, [], ◌∷◌, length, Option, Some, None, refl, sym, subst, arith}
 use Rattle.std.specs.List.{AllByRecursion, list_all}
 use Rattle.std.proofs.lemmas.Bool.{and_parts}
 use Rattle.fm_base.specs.Interpretations.{names_its_sorts, reading_of}
@@ -11,7 +10,6 @@ use Rattle.fm_cert.specs.Claims.{ClaimHolds, HasTable, IsGoodBlock}
 use Rattle.fm_cert.specs.Fits.{IsPrintable}
 use Rattle.fm_cert.specs.declared.block.Block.{Block}
 use Rattle.fm_cert.proofs.Sound.{blocks-sound}
-use Rattle.fm_clauses.specs.Assertions.{assertions_made}
 use Rattle.fm_clauses.proofs.ModelLaws.{expand}
 use Rattle.fm_thin.specs.Certified.{IsDecided, answering_block, block_of, one_element_model, refuting_block}
 use Rattle.fm_thin.specs.Tabled.{tabled}

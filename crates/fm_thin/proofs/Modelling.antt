@@ -1,10 +1,10 @@
 -- The interpretation of one element a sort, with the value 0 everywhere: it fits the signature, and without `false` among
 -- thin assertions all of them are true in it.
-use Rattle.std.proofs.Common.{◌≡◌, ◌≢◌, ℕ, zero, suc, ◌+◌, ◌<◌, ◌≤◌, ◌==◌, inl, inr, Bool, true, false, ◌&&◌, ◌||◌, not, List, [], ◌∷◌, length, replicate, Option, Some, None, ap, refl, sym, subst, ◌∙◌, arith}
+use Rattle.std.proofs.Common.{◌≡◌, ◌≢◌, ℕ, zero, suc, ◌+◌, ◌<◌, ◌≤◌, inl, inr, Bool, true, false, ◌&&◌, ◌||◌, not, List, [], ◌∷◌, length, replicate, Option, Some, None, ap, refl, sym, subst, ◌∙◌, arith}
 use Rattle.std.specs.Prelude.{nat_le, nat_lt, slice_get, slice_index, All}
 use Rattle.std.specs.List.{list_all}
 use Rattle.std.specs.Option.{option_map}
-use Rattle.std.proofs.lemmas.Bool.{and_parts, and_from, eq-eqb, lt-ltb, ltb-true, false≢true}
+use Rattle.std.proofs.lemmas.Bool.{and_parts, and_from, eq-eqb, lt-ltb, ltb-true}
 use Rattle.std.proofs.lemmas.List.{length-replicate, get_or-replicate}
 use Rattle.std.proofs.lemmas.List.Elements.{All-nil, All-cons}
 use Rattle.fm_base.specs.Interpretations.{Reading, reading_of, is_fit, is_table, are_tables, is_sort_of, is_nil, entry_at, names_its_sorts, values_of}
@@ -12,7 +12,6 @@ use Rattle.fm_base.specs.Models.{sum_below}
 use Rattle.fm_base.specs.Truth.{truth, value}
 use Rattle.fm_base.proofs.Constructors.{truth_of_equal, truth_of_truth, value_of_app}
 use Rattle.fm_base.specs.declared.ids.SymId.{SymId}
-use Rattle.fm_base.specs.declared.formula.Formula
 use Rattle.fm_base.specs.declared.formula.Formula.{Formula}
 use Rattle.fm_base.specs.declared.signature.Rank.{Rank}
 use Rattle.fm_base.specs.declared.signature.Sig.{Sig}
@@ -20,7 +19,7 @@ use Rattle.fm_base.specs.declared.signature.Ty.{Ty}
 use Rattle.fm_thin.specs.Certified.{zero_table, one_element_model}
 use Rattle.fm_thin.specs.Thin.{falsity_behind, falsity_in, is_thin, kind_of, truth_kind}
 use Rattle.fm_thin.specs.declared.thin.Kind.{Kind}
-use Rattle.fm_thin.proofs.Shapes.{Shape, constant, equation, kind_of_truth, shape}
+use Rattle.fm_thin.proofs.Shapes.{Shape, constant, kind_of_truth, shape}
 
 pub size_one : (n s : ℕ) → s < n → slice_index (replicate n 1) s ≡ 1
 size_one n s lt = get_or-replicate n s 1 0 lt

@@ -1,10 +1,10 @@
 -- A thin assertion is a truth value or an equation of two constants, and closed and well sorted.
-use Rattle.std.proofs.Common.{◌≡◌, ◌⊎◌, inl, inr, Bool, true, false, ◌&&◌, cond, List, [], ◌∷◌, map, Option, Some, None, ap, refl, sym, subst, ◌∙◌}
-use Rattle.std.specs.Prelude.{slice_get, All}
+use Rattle.std.proofs.Common.{◌≡◌, ◌⊎◌, inl, inr, Bool, true, false, cond, List, [], ◌∷◌, map, Option, Some, None, ap, refl, sym, subst, ◌∙◌}
+use Rattle.std.specs.Prelude.{slice_get}
 use Rattle.std.specs.List.{list_all}
-use Rattle.std.proofs.lemmas.Bool.{and_parts, cases_Bool, cond-true, cond-false, false≢true}
+use Rattle.std.proofs.lemmas.Bool.{and_parts, cond-true, false≢true}
 use Rattle.std.proofs.lemmas.List.Elements.{All-nil, All-cons}
-use Rattle.fm_base.specs.Interpretations.{is_nil, names_its_sorts}
+use Rattle.fm_base.specs.Interpretations.{is_nil}
 use Rattle.fm_base.specs.Truth.{Sort, Sorted, have_one_sort, is_closed, result_of, sort_of, sort_step, sorted_step}
 use Rattle.fm_base.specs.declared.ids.SortId.{SortId}
 use Rattle.fm_base.specs.declared.ids.SymId.{SymId}
@@ -15,9 +15,9 @@ use Rattle.fm_base.specs.declared.formula.Fterm
 use Rattle.fm_base.specs.declared.formula.Fterm.{Fterm}
 use Rattle.fm_base.proofs.NormalTerms.{Each}
 use Rattle.fm_clauses.specs.TableLaw.{AreClosed}
-use Rattle.fm_nnf.proofs.Formulas.{Cases, formula_induction, fterm_induction, fold_at_truth, fold_at_pred, fold_at_equal, fold_at_not, fold_at_and, fold_at_or, fold_at_iff, fold_at_ite, fold_at_quant, fold_at_var, fold_at_app, fold_at_term_ite}
+use Rattle.fm_nnf.proofs.Formulas.{Cases, formula_induction, fold_at_truth, fold_at_pred, fold_at_equal, fold_at_not, fold_at_and, fold_at_or, fold_at_iff, fold_at_ite, fold_at_quant, fold_at_var, fold_at_app, fold_at_term_ite}
 use Rattle.fm_nnf.proofs.Sorting.{one_sort_parts}
-use Rattle.fm_thin.specs.Thin.{ConstantSort, are_thin, constant_sort, constant_step, is_answered, is_thin, kind_of, kind_step, truth_kind}
+use Rattle.fm_thin.specs.Thin.{ConstantSort, constant_sort, constant_step, is_answered, is_thin, kind_of, kind_step, truth_kind}
 use Rattle.fm_thin.specs.declared.thin.Kind.{Kind}
 
 abbrev pub constant : SymId → Fterm

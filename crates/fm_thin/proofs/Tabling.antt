@@ -1,16 +1,14 @@
 -- The clauses of thin assertions in the clause table: none for `true`, one without literals for `false`, one for an equation.
-use Rattle.std.proofs.Common.{◌≡◌, ◌≢◌, ℕ, suc, ◌+◌, inl, inr, Bool, true, false, List, [], ◌∷◌, ◌++◌, length, Option, Some, None, ap, refl, sym, subst, ◌∙◌, arith, zero-add}
+use Rattle.std.proofs.Common.{◌≡◌, ℕ, suc, ◌+◌, inl, inr, Bool, true, false, List, [], ◌∷◌, ◌++◌, length, Option, Some, None, ap, refl, sym, subst, ◌∙◌, arith, zero-add}
 use Rattle.std.specs.Prelude.{slice_get}
 use Rattle.std.specs.List.{list_all}
 use Rattle.std.specs.Option.{option_map}
 use Rattle.std.proofs.lemmas.Bool.{and_parts}
 use Rattle.std.proofs.lemmas.List.{append-nil}
 use mathlib.Core.Bool.{beq}
-use Rattle.fm_base.specs.Truth.{have_one_sort}
 use Rattle.fm_base.specs.declared.ids.SymId.{SymId}
 use Rattle.fm_base.specs.declared.signature.Rank.{Rank}
 use Rattle.fm_base.specs.declared.signature.Sig.{Sig}
-use Rattle.fm_base.specs.declared.formula.Formula
 use Rattle.fm_base.specs.declared.formula.Formula.{Formula}
 use Rattle.fm_base.specs.declared.formula.Fterm
 use Rattle.fm_base.specs.declared.formula.Fterm.{Fterm}
@@ -19,16 +17,16 @@ use Rattle.fm_base.specs.declared.formula.Nnf.{Nnf}
 use Rattle.fm_base.specs.declared.formula.Patom.{Patom}
 use Rattle.fm_base.specs.declared.formula.Pterm.{Pterm}
 use Rattle.fm_bank.specs.declared.clause.Clause.{Clause}
-use Rattle.fm_nnf.specs.Lifting.{Lifted, Lifter, TermLifter, alone, lift_formula, lift_formula_step, lift_term, lift_term_step, lifted, lifted_equal, mapped, type_of_symbol}
-use Rattle.fm_nnf.specs.NormalForm.{Signed, form_step, formed_junction, formed_literal, normal, normal_term, term_form_step}
+use Rattle.fm_nnf.specs.Lifting.{Lifted, Lifter, TermLifter, alone, lift_formula_step, lift_term, lift_term_step, lifted, lifted_equal, mapped, type_of_symbol}
+use Rattle.fm_nnf.specs.NormalForm.{Signed, form_step, formed_junction, normal, normal_term, term_form_step}
 use Rattle.fm_nnf.proofs.Formulas.{fold_at_truth, fold_at_equal, fold_at_app}
 use Rattle.fm_nnf.proofs.Normals.{fold_of_lit, fold_of_and, fold_of_or}
 use Rattle.fm_clauses.specs.Assertions.{assertion_made, assertions_made, form_made, forms_made}
 use Rattle.fm_clauses.specs.Narrow.{clause_of}
-use Rattle.fm_clauses.specs.Table.{Made, Node, clauses_of_normal, node_step}
+use Rattle.fm_clauses.specs.Table.{Node, clauses_of_normal, node_step}
 use Rattle.fm_thin.specs.Thin.{falsity_behind, falsity_in, is_thin, kind_of, truth_kind}
 use Rattle.fm_thin.specs.declared.thin.Kind.{Kind}
-use Rattle.fm_thin.proofs.Shapes.{IsEquation, Shape, constant, equation, kind_of_equation, kind_of_truth, shape}
+use Rattle.fm_thin.proofs.Shapes.{Shape, constant, equation, kind_of_equation, kind_of_truth, shape}
 
 abbrev pub empty_clause : Clause
 empty_clause = record { vars = []; lits = [] }

@@ -6,17 +6,9 @@ use Rattle.std.proofs.lemmas.List.{append-nil}
 use Rattle.std.proofs.lemmas.Slice.Eq.{bytes_eq-Decides}
 use Rattle.fm_files.proofs.Pieces.{Extends-then}
 use Rattle.fm_files.specs.Seen.{Extends, Seen, SameByName, SameButAt, Rose, NoFault, OnlyWrites, Holds, HasRoom, lowered}
-use Rattle.fmf.specs.Filing.{Puts, PutsInBlock, PutsInReply, CountsRose}
-use Rattle.fmf.specs.Outputs.{Written, Filed, CutInBlock, CutInReply}
-use Rattle.fmf.specs.Words.{dash, cert}
+use Rattle.fmf.specs.Filing.{Written, Stands, StandsPart, Puts, PutsPart, CountsRose}
+use Rattle.fmf.specs.Words.{dash}
 
-pub dash≢cert : dash ≢ cert
-dash≢cert = λ e. cc e
-
-pub cert≢dash : cert ≢ dash
-cert≢dash = λ e. cc e
-
--- two names are equal, or not
 pub same_name : (a b : List ℕ) → (a ≡ b) ⊎ (a ≢ b)
 same_name a b =
     elim (cases_Bool (bytes_eq a b)) [
@@ -42,31 +34,37 @@ Holds-then (Some a) None c xs ys p q = absurd p
 Holds-then (Some a) (Some b) None xs ys p q = absurd q
 Holds-then (Some a) (Some b) (Some c) xs ys p q = q ∙ ap (λ (zs : List ℕ). zs ++ ys) p
 
-pub Filed-then : (old mid new : Written) (blocks replies block reply : List ℕ) → Filed old mid blocks replies → Puts mid new block reply → Filed old new (blocks ++ block) (replies ++ reply)
-Filed-then old mid new blocks replies block reply f p = record {
-  file = Holds-then (old cert) (mid cert) (new cert) blocks block f.file p.file;
-  out = Extends-then (old dash) (mid dash) (new dash) replies reply f.out p.out;
+pub Stands-then : (cert : List ℕ) (old mid new : Written) (file out block reply : List ℕ) → Stands cert old mid file out → Puts cert mid new block reply → Stands cert old new (file ++ block) (out ++ reply)
+Stands-then cert old mid new file out block reply f p = record {
+  certificate = Holds-then (old cert) (mid cert) (new cert) file block f.certificate p.file;
+  output = Extends-then (old dash) (mid dash) (new dash) out reply f.output p.out;
   others = λ name a b. p.others name a b ∙ f.others name a b;
 }
 
-pub Filed-in_block : (old mid new : Written) (blocks replies block : List ℕ) → Filed old mid blocks replies → PutsInBlock mid new block → CutInBlock old new blocks replies block
-Filed-in_block old mid new blocks replies block f p = record {
+pub Stands-part : (cert : List ℕ) (old mid new : Written) (file out block reply : List ℕ) → Stands cert old mid file out → PutsPart cert mid new block reply → StandsPart cert old new file out block reply
+Stands-part cert old mid new file out block reply f (inl p) = record {
   front = p.file.0;
   back = p.file.1;
-  split = p.file.2;
-  file = Holds-then (old cert) (mid cert) (new cert) blocks p.file.0 f.file p.file.3;
-  out = subst (λ (o : Option (List ℕ)). Extends (old dash) o replies) (sym p.out) f.out;
-  others = λ name a b. p.others name a b ∙ f.others name a b;
+  cut = inl (
+    p.file.2,
+    record {
+      certificate = Holds-then (old cert) (mid cert) (new cert) file p.file.0 f.certificate p.file.3;
+      output = subst (λ (o : Option (List ℕ)). Extends (old dash) o out) (sym p.out) f.output;
+      others = λ name a b. p.others name a b ∙ f.others name a b;
+    },
+  );
 }
-
-pub Filed-in_reply : (old mid new : Written) (blocks replies block reply : List ℕ) → Filed old mid blocks replies → PutsInReply mid new block reply → CutInReply old new (blocks ++ block) replies reply
-Filed-in_reply old mid new blocks replies block reply f p = record {
+Stands-part cert old mid new file out block reply f (inr p) = record {
   front = p.out.0;
   back = p.out.1;
-  split = p.out.2;
-  file = Holds-then (old cert) (mid cert) (new cert) blocks block f.file p.file;
-  out = Extends-then (old dash) (mid dash) (new dash) replies p.out.0 f.out p.out.3;
-  others = λ name a b. p.others name a b ∙ f.others name a b;
+  cut = inr (
+    p.out.2,
+    record {
+      certificate = Holds-then (old cert) (mid cert) (new cert) file block f.certificate p.file;
+      output = Extends-then (old dash) (mid dash) (new dash) out p.out.0 f.output p.out.3;
+      others = λ name a b. p.others name a b ∙ f.others name a b;
+    },
+  );
 }
 
 pub OnlyWrites-then : (a b c : Seen) → OnlyWrites a b → OnlyWrites b c → OnlyWrites a c
@@ -92,8 +90,8 @@ Rose-after a b c le rose = elim rose [ inl lt ↦ inl (omega arith) | inr end �
 pub Rose-before : (a b c : ℕ) → Rose a b → b ≤ c → Rose a c
 Rose-before a b c rose le = elim rose [ inl lt ↦ inl (omega arith) | inr end ↦ inr (omega arith) ]
 
-pub CountsRose-after : (a b c : Seen) → OnlyWrites a b → CountsRose b c → CountsRose a c
-CountsRose-after a b c p q = record {
+pub CountsRose-after : (cert : List ℕ) (a b c : Seen) → OnlyWrites a b → CountsRose cert b c → CountsRose cert a c
+CountsRose-after cert a b c p q = record {
   rose = elim q.rose [
     | inl h ↦ inl (Rose-after (a.write_faults cert) (b.write_faults cert) (c.write_faults cert) (p.writes_later cert) h)
     | inr h ↦ inr (Rose-after (a.write_faults dash) (b.write_faults dash) (c.write_faults dash) (p.writes_later dash) h)
@@ -108,6 +106,5 @@ pub HasRoom-lowered : (room : Option ℕ) (n k : ℕ) → HasRoom room n → Has
 HasRoom-lowered None n k h = h
 HasRoom-lowered (Some r) n k h = omega arith
 
--- room for n bytes, of which none is used up
 pub HasRoom-same : (a b : Option ℕ) (n : ℕ) → b ≡ a → HasRoom a n → HasRoom b n
 HasRoom-same a b n e h = subst (λ (o : Option ℕ). HasRoom o n) (sym e) h

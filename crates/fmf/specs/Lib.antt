@@ -1,10 +1,8 @@
 pub mod Answers
-pub mod Certified
-pub mod Executed
+pub mod Asked
 pub mod Filing
-pub mod InForce
-pub mod Outputs
-pub mod Scopes
+pub mod Headline
+pub mod Reached
+pub mod Solved
 pub mod Statuses
-pub mod Tables
 pub mod Words

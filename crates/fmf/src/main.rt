@@ -9,10 +9,6 @@ ghost use Rattle.std.specs.Process.{exit_status};
 ghost use Rattle.fmf.specs.Statuses.{exit_code};
 
 mod answers;
-mod certify;
-mod executed;
-mod replies;
-mod scopes;
 mod solve;
 mod status;
 #[cfg(test)]

@@ -1,15 +1,17 @@
-ghost use Rattle.std.specs.Prelude.{◌≡◌, ◌≢◌, ℕ, ◌⊎◌, ◌↔◌, List, None, Some, length, map, String, string_bytes, ◌≤◌};
-ghost use Rattle.fm_files.specs.Seen.{Seen, OnlyWrites, SameByName, SameButAt, NoFault, HasRoom, Rose};
-ghost use Rattle.fmf.specs.Answers.{refusal_reply};
+ghost use Rattle.std.specs.Prelude.{◌≡◌, ◌≢◌, ◌↔◌, None, map, String, string_bytes, true};
+ghost use Rattle.fm_files.specs.Seen.{Seen, OnlyWrites, Rose};
+ghost use Rattle.fmf.specs.Asked.{asked as asked_of};
 ghost use Rattle.fmf.specs.Filing.{CountsRose};
-ghost use Rattle.fmf.specs.Outputs.{Wrote, at_start as at_start_of, Ran, Unchanged, Certifies, IsEnough, IsSure, HasNoFault};
-ghost use Rattle.fmf.specs.Words.{dash, cert, script_of};
+ghost use Rattle.fmf.specs.Headline.{Claims, IsComplete, LeavesOthers};
+ghost use Rattle.fmf.specs.Solved.{Wrote, Solved, at_start as at_start_of, Unchanged, HasCauses};
+ghost use Rattle.fmf.specs.Words.{dash, request_of, IfAsked};
 
 use crate::answers::{answer_all, refuse};
 use crate::status::Status;
-use crate::words::script_word;
+use crate::words::{Asked, request};
 use fm_base::{Fail, Place, Reason, Refusal};
 use fm_files::{Files, ReadError, read_all};
+use fm_session::Budget;
 use fm_sexp::read_sexps;
 use std::alloc::Global;
 
@@ -22,24 +24,16 @@ pub const LONGEST_SCRIPT: usize = 16_777_216;
 /// the file `fmf.cert`, which is made anew. A script that is too long or doesn't read as items is refused, and then
 /// `fmf.cert` isn't touched; else its commands are answered up to `exit` or to the first one that is refused.
 pub fn run<F: Files>(alloc: Global, words: &[String], files: &mut F) -> Status
-    ensures usage { (result ≡ Status.Usage) ↔ (script_of (map (λ w. string_bytes w) words.now) ≡ None) }
+    ensures usage { (result ≡ Status.Usage) ↔ (request_of (map (λ w. string_bytes w) words.now) ≡ None) }
     ensures unused { result ≡ Status.Usage → Unchanged (F.seen files.old) (F.seen files.new) }
-    ensures ran { (script : List ℕ) → script_of (map (λ w. string_bytes w) words.now) ≡ Some script → Ran script (F.seen files.old) (F.seen files.new) result }
-
-    // Each answer carries a good block whose claim holds: for `sat` a model of the assertions in force and the proof that
-    // it is least, for `unsat` that no interpretation is a model of them.
-    ensures claims { (script : List ℕ) → script_of (map (λ w. string_bytes w) words.now) ≡ Some script → result ≡ Status.Done → Certifies script (F.seen files.old) (F.seen files.new) }
-
-    // The same where a command was refused; any other refusal leaves the certificate alone.
-    ensures claims_refused { (script : List ℕ) → script_of (map (λ w. string_bytes w) words.now) ≡ Some script → result ≡ Status.Script → Certifies script (F.seen files.old) (F.seen files.new) ⊎ ((F.seen files.new).written cert ≡ (F.seen files.old).written cert) }
-
-    ensures left { (script : List ℕ) → script_of (map (λ w. string_bytes w) words.now) ≡ Some script → SameButAt (F.seen files.old).left (F.seen files.new).left script }
-    ensures read_fault { (script : List ℕ) → script_of (map (λ w. string_bytes w) words.now) ≡ Some script → result ≡ Status.ReadFault → Rose ((F.seen files.old).read_faults script) ((F.seen files.new).read_faults script) }
-    ensures write_fault { result ≡ Status.WriteFault → CountsRose (F.seen files.old) (F.seen files.new) }
-    ensures sure { (script : List ℕ) → script_of (map (λ w. string_bytes w) words.now) ≡ Some script → IsSure script (F.seen files.old) → HasNoFault (F.seen files.old) (F.seen files.new) result }
+    ensures solved { IfAsked words.now (λ r. Solved r (F.seen files.old) (F.seen files.new) result) }
+    ensures claims { IfAsked words.now (λ r. Claims r (F.seen files.old) (F.seen files.new) result) }
+    ensures complete { IfAsked words.now (λ r. IsComplete r (F.seen files.old) (F.seen files.new) result) }
+    ensures others { IfAsked words.now (λ r. LeavesOthers r (F.seen files.old) (F.seen files.new)) }
+    ensures causes { IfAsked words.now (λ r. HasCauses r (F.seen files.old) (F.seen files.new) result) }
 {
-    match script_word(words) {
-        Some(script) => solve(alloc, script, files),
+    match request(words) {
+        Some(asked) => solve(alloc, asked, files),
         None => Status::Usage,
     }
 }
@@ -53,16 +47,14 @@ fn at_start(reason: Reason) -> Refusal
 }
 
 // Reads the script and answers it.
-fn solve<F: Files>(alloc: Global, script: &str, files: &mut F) -> Status
+fn solve<F: Files>(alloc: Global, asked: Asked, files: &mut F) -> Status
+    requires apart { asked.cert.now ≢ dash }
     ensures used { result ≢ Status.Usage }
-    ensures ran { Ran script.now (F.seen files.old) (F.seen files.new) result }
-    ensures left { SameButAt (F.seen files.old).left (F.seen files.new).left script.now }
-    ensures read_fault { result ≡ Status.ReadFault → Rose ((F.seen files.old).read_faults script.now) ((F.seen files.new).read_faults script.now) }
-    ensures write_fault { result ≡ Status.WriteFault → CountsRose (F.seen files.old) (F.seen files.new) }
-    ensures sure { IsSure script.now (F.seen files.old) → HasNoFault (F.seen files.old) (F.seen files.new) result }
+    ensures solved { Solved (asked_of asked.entry) (F.seen files.old) (F.seen files.new) result }
+    ensures causes { HasCauses (asked_of asked.entry) (F.seen files.old) (F.seen files.new) result }
 {
-    match read_all(alloc, files, script, LONGEST_SCRIPT) {
-        Ok(text) => answer_text(alloc, text.as_slice(), files),
+    match read_all(alloc, files, asked.script, LONGEST_SCRIPT) {
+        Ok(text) => answer_text(alloc, text.as_slice(), asked.cert, asked.budget, files),
         Err(ReadError::TooLong) => refuse(alloc, at_start(Reason::TooLong), files),
         Err(ReadError::Fault) => Status::ReadFault,
         Err(ReadError::Memory) => Status::Memory,
@@ -70,15 +62,21 @@ fn solve<F: Files>(alloc: Global, script: &str, files: &mut F) -> Status
 }
 
 // Answers a whole text.
-fn answer_text<F: Files>(alloc: Global, text: &[u8], files: &mut F) -> Status
+fn answer_text<F: Files>(
+    alloc: Global,
+    text: &[u8],
+    cert: &str,
+    budget: Budget,
+    files: &mut F,
+) -> Status
+    requires apart { cert.now ≢ dash }
     ensures used { (result ≢ Status.Usage) × (result ≢ Status.ReadFault) }
-    ensures wrote { Wrote text.now (F.seen files.old).written (F.seen files.new).written result }
+    ensures wrote { Wrote budget text.now cert.now (F.seen files.old) (F.seen files.new) result }
     ensures leaves { OnlyWrites (F.seen files.old) (F.seen files.new) }
-    ensures cause { result ≡ Status.WriteFault → CountsRose (F.seen files.old) (F.seen files.new) }
-    ensures never { (out file : ℕ) → IsEnough text.now out file → HasRoom ((F.seen files.old).room dash) out → HasRoom ((F.seen files.old).room cert) file → (result ≢ Status.WriteFault) × NoFault (F.seen files.old) (F.seen files.new) }
+    ensures cause { result ≡ Status.WriteFault → CountsRose cert.now (F.seen files.old) (F.seen files.new) }
 {
     match read_sexps(alloc, text) {
-        Ok(items) => answer_all(alloc, text, items.as_slice(), files),
+        Ok(items) => answer_all(alloc, text, items.as_slice(), cert, budget, files),
         Err(Fail::Refused(refusal)) => refuse(alloc, refusal, files),
         Err(Fail::Memory) => Status::Memory,
     }

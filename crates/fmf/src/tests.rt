@@ -68,10 +68,22 @@ fn answers_scripts(rt: HostRuntime) -> Result<(), Fail> {
         ),
         (TWICE, Status::Done, b"sat\nsat\n".as_slice(), TWICE_CERT),
         (
-            b"(push 1)".as_slice(),
+            b"(declare-fun p () Bool)(assert p)(check-sat)".as_slice(),
             Status::Script,
-            b"(error \"20 at 1:1: not yet\")\n".as_slice(),
+            b"(error \"20 at 1:34: not yet\")\n".as_slice(),
             HEADER,
+        ),
+        (
+            b"(declare-sort A 0)(push 1)(declare-sort B 0)(check-sat)(pop 1)(check-sat)".as_slice(),
+            Status::Done,
+            b"sat\nsat\n".as_slice(),
+            b"fmfcert 1\nb 0\ns 1 0 0\no z 0\no z 1\nr 0 +C0,0 1 +C1,0 2\nq sat 2\nz 1 1\nb 1\ns 0 0\no z 0\nr 0 +C0,0 1\nq sat 1\nz 1\n".as_slice(),
+        ),
+        (
+            b"(declare-sort U 0)(declare-fun f (U U) U)(declare-fun p (U) Bool)(declare-const a U)(assert (= a a))(check-sat)".as_slice(),
+            Status::Done,
+            b"sat\n".as_slice(),
+            b"fmfcert 1\nb 0\ns 0 0\no z 0\nr 0 +C0,0 1\nq sat 1\nz 1\nd 0\nd 0\nd 0\n".as_slice(),
         ),
         (
             b"(echo \"a\")(check-sat)(get-model)".as_slice(),
@@ -219,7 +231,7 @@ fn refuses_texts_and_commands(rt: HostRuntime) -> Result<(), Fail> {
         ),
         (
             b"(declare-sort U 0)(declare-sort U 0)".as_slice(),
-            b"(error \"20 at 1:19: not yet\")\n".as_slice(),
+            b"(error \"11 at 1:33: name already taken\")\n".as_slice(),
         ),
     ];
     for (script, reply) in rows {
@@ -253,20 +265,76 @@ fn reads_deep_scripts(rt: HostRuntime) -> Result<(), Fail> {
     Ok(())
 }
 
-const NOT_BUILT: [&[u8]; 12] = [
-    b"(set-logic UF)",
-    b"(set-option :print-success true)",
-    b"(get-info :name)",
-    b"(define-sort S () U)",
-    b"(declare-const c U)",
-    b"(declare-fun f (U) U)",
-    b"(define-fun f ((x U)) U x)",
-    b"(push 1)",
-    b"(push)",
-    b"(pop 1)",
-    b"(get-model)",
-    b"(get-value (a))",
+const COMMANDS: [(&[u8], Status, &[u8]); 14] = [
+    (b"(set-logic UF)", Status::Done, b""),
+    (
+        b"(define-sort S () U)",
+        Status::Script,
+        b"(error \"9 at 1:19: unknown sort\")\n",
+    ),
+    (
+        b"(declare-const c U)",
+        Status::Script,
+        b"(error \"9 at 1:18: unknown sort\")\n",
+    ),
+    (
+        b"(declare-fun f (U) U)",
+        Status::Script,
+        b"(error \"9 at 1:17: unknown sort\")\n",
+    ),
+    (
+        b"(define-fun f ((x U)) U x)",
+        Status::Script,
+        b"(error \"9 at 1:19: unknown sort\")\n",
+    ),
+    (b"(push 1)(push)(pop 2)", Status::Done, b""),
+    (
+        b"(pop 1)",
+        Status::Script,
+        b"(error \"16 at 1:1: pop below the first level\")\n",
+    ),
+    (
+        b"(get-model)",
+        Status::Script,
+        b"(error \"18 at 1:1: no model\")\n",
+    ),
+    (
+        b"(get-value (a))",
+        Status::Script,
+        b"(error \"18 at 1:1: no model\")\n",
+    ),
+    (
+        b"(check-sat)(push)(get-model)",
+        Status::Script,
+        b"sat\n(error \"18 at 1:18: no model\")\n",
+    ),
+    (
+        b"(check-sat)(get-value (a))",
+        Status::Script,
+        b"sat\n(error \"20 at 1:12: not yet\")\n",
+    ),
+    (
+        b"(check-sat)\n(pop 1)",
+        Status::Script,
+        b"sat\n(error \"16 at 2:1: pop below the first level\")\n",
+    ),
+    (
+        b"(set-option :print-success true)\n(set-option :verbosity 1)\n(echo \"a \"\"b\"\"\")\n(get-info :name)\n(get-model)",
+        Status::Script,
+        b"success\nunsupported\n\"a \"\"b\"\"\"\n(:name \"fmf\")\n(error \"18 at 5:1: no model\")\n",
+    ),
+    (
+        b"(get-info :version)(get-info :error-behavior)(get-info :reason-unknown)(get-info :authors)",
+        Status::Done,
+        b"(:version \"1\")\n(:error-behavior immediate-exit)\nunsupported\nunsupported\n",
+    ),
 ];
+
+// `success` on and off: each command that has no reply of its own, and options that are known, unknown or too late.
+const SUCCESS: (&[u8], &[u8]) = (
+    b"(set-logic UF)(set-option :print-success true)(set-logic UF)(set-info :x)(set-option :global-declarations false)(declare-sort U 0)(define-sort V () U)(declare-const a V)(declare-fun f (U) U)(define-fun g () U a)(assert (= a g))(push)(pop)(set-option :global-declarations true)(set-option :produce-models true)(check-sat)(get-info :reason-unknown)(set-option :print-success false)(assert true)(set-option :print-success true)(exit)(pop)",
+    b"success\nsuccess\nsuccess\nsuccess\nsuccess\nsuccess\nsuccess\nsuccess\nsuccess\nsuccess\nsuccess\nsuccess\nunsupported\nsuccess\nsat\nunsupported\nsuccess\nsuccess\n",
+);
 
 const BAD_SHAPES: [&[u8]; 20] = [
     b"(set-logic)",
@@ -292,17 +360,24 @@ const BAD_SHAPES: [&[u8]; 20] = [
 ];
 
 #[test]
-fn knows_shapes(rt: HostRuntime) -> Result<(), Fail> {
-    for text in NOT_BUILT {
+fn answers_commands(rt: HostRuntime) -> Result<(), Fail> {
+    for (text, status, reply) in COMMANDS {
         let script = Vec::from_slice(rt.alloc(), text)?;
         let mut files = files_with(rt.alloc(), script, &[], &[])?;
         let answer = solve_in(rt.alloc(), &mut files)?;
-        assert_eq!(rt; answer, Status::Script);
-        assert_eq!(rt;
-            files.written("-"),
-            b"(error \"20 at 1:1: not yet\")\n".as_slice()
-        );
+        assert_eq!(rt; answer, status);
+        assert_eq!(rt; files.written("-"), reply);
     }
+    let script = Vec::from_slice(rt.alloc(), SUCCESS.0)?;
+    let mut files = files_with(rt.alloc(), script, &[], &[])?;
+    let answer = solve_in(rt.alloc(), &mut files)?;
+    assert_eq!(rt; answer, Status::Done);
+    assert_eq!(rt; files.written("-"), SUCCESS.1);
+    Ok(())
+}
+
+#[test]
+fn knows_shapes(rt: HostRuntime) -> Result<(), Fail> {
     for text in BAD_SHAPES {
         let script = Vec::from_slice(rt.alloc(), text)?;
         let mut files = files_with(rt.alloc(), script, &[], &[])?;

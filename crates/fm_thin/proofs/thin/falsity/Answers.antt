@@ -1,6 +1,6 @@
 use Rattle.std.proofs.Common.{◌≡◌, ℕ, ◌+◌, ◌≤◌, get_or, sym, subst, ◌∙◌, arith}
 use Rattle.fm_base.specs.declared.formula.Formula.{Formula}
-use Rattle.fm_thin.specs.Thin.{clauses_in, is_never, kind_of}
+use Rattle.fm_thin.specs.Thin.{kind_of}
 use Rattle.fm_thin.proofs.Counting.{Counts, counts_all, counts_found, counts_next, counts_none, few_more}
 use Rattle.fm_thin.proofs.thin.falsity.Goals as goal
 

@@ -1,4 +1,4 @@
-use Rattle.std.proofs.Common.{◌≡◌, ap, ◌∙◌, Bool}
+use Rattle.std.proofs.Common.{ap, ◌∙◌, Bool}
 use Rattle.fm_elab.specs.Held.{state_of}
 use Rattle.fm_script.specs.Shown.{shown}
 use Rattle.fm_session.specs.Effects.{effect, effect_where}

@@ -1,6 +1,0 @@
-use Rattle.std.proofs.Common.{◌≡◌, ◌++◌}
-use Rattle.fmf.specs.Certified.{orders}
-use Rattle.fmf.proofs.certify.push_orders.Given as goal
-
-abbrev pub invariant-loop-sort : goal.invariant-loop-sort
-invariant-loop-sort l = l.lines.items ≡ l.fn.lines.items ++ orders 0 l.sort
