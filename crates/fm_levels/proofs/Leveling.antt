@@ -1,5 +1,5 @@
 -- What the calls leave, by the lists that the code keeps.
-use Rattle.std.proofs.Common.{map, Bool, true, false, not, ◌≡◌, ℕ, zero, suc, ◌+◌, ◌-◌, ◌<◌, ◌≤◌, List, [], ◌∷◌, ◌++◌, length, take, drop, get_or, replicate, ap, refl, sym, subst, ◌∙◌, arith}
+use Rattle.std.proofs.Common.{map, Bool, true, false, not, ◌≡◌, ℕ, zero, suc, ◌+◌, ◌-◌, ◌^◌, ◌<◌, ◌≤◌, List, [], ◌∷◌, ◌++◌, length, take, drop, get_or, replicate, ap, refl, sym, subst, ◌∙◌, arith}
 use Rattle.std.specs.Prelude.{Option, Some, None, cond, is_some, nat_lt, slice_get}
 use Rattle.std.specs.Str.{bytes_eq}
 use Rattle.std.proofs.lemmas.List.{drop-take, take-take, take_all, get_or_default, length-drop, length-append, length_push, length-take-le, append-nil}
@@ -218,6 +218,12 @@ count_is f u ms ls a b n e c la lb s =
     let j = ap length (joined_is f u ms ls e c) in
     let l = length-append f u in
     omega (arith, la, lb, s, j, l)
+
+pub count_is_over : {A : Type 0} (f u : List A) (ms : List ℕ) (ls : List (List A)) (a b : ℕ) → levels_in f u ms ≡ ls → AreCut u ms → a ≡ length f → b ≡ length u → (a + b < 2 ^ 64 → ⊥) → 2 ^ 64 ≤ length (joined ls)
+count_is_over f u ms ls a b e c la lb o =
+    let j = ap length (joined_is f u ms ls e c) in
+    let l = length-append f u in
+    omega (arith, la, lb, o, j, l)
 
 below_by_marks : {A : Type 0} (f u : List A) (ms : List ℕ) → nat_lt (length ms) 1 ≡ stands_below false (levels_in f u ms)
 below_by_marks f u [] = refl

@@ -1,4 +1,4 @@
-ghost use Rattle.std.specs.Prelude.{◌≡◌, ◌^◌, ◌<◌, ◌+◌, ◌-◌, ◌++◌, ◌∷◌, [], length, slice_get, take, replicate, IfSome, OnOk, OnErr};
+ghost use Rattle.std.specs.Prelude.{◌≡◌, ◌^◌, ◌<◌, ◌≤◌, ◌+◌, ◌-◌, ◌++◌, ◌∷◌, [], length, slice_get, take, replicate, IfSome, IfNone, OnOk, OnErr};
 ghost use Rattle.std.specs.Option.{option_map};
 ghost use Rattle.fm_levels.specs.Tables.{named_values};
 ghost use Rattle.fm_levels.specs.Levels.{count_level, cut_level, joined, put, stands_below};
@@ -81,7 +81,8 @@ impl<'a, V: Drop> Layers<'a, V> {
 
     /// How many names there are in all levels; None where that is no number of 64 bits.
     pub fn count(&self) -> Option<usize>
-        ensures { IfSome result (λ n. n ≡ length (joined self.now)) }
+        ensures some { IfSome result (λ n. n ≡ length (joined self.now)) }
+        ensures none { IfNone result (2 ^ 64 ≤ length (joined self.now)) }
     {
         let below = count(&self.first);
         let above = count(&self.upper);

@@ -1,4 +1,4 @@
-ghost use Rattle.std.specs.Prelude.{◌≡◌, ◌^◌, ◌<◌, ◌+◌, ◌-◌, ◌++◌, ◌∷◌, [], length, not, slice_get, take, replicate, true, false, IfOk, IfSome, OnOk, OnErr};
+ghost use Rattle.std.specs.Prelude.{◌≡◌, ◌^◌, ◌<◌, ◌≤◌, ◌+◌, ◌-◌, ◌++◌, ◌∷◌, [], length, not, slice_get, take, replicate, true, false, IfOk, IfSome, IfNone, OnOk, OnErr};
 ghost use Rattle.std.specs.Option.{option_copied, option_map};
 ghost use Rattle.fm_levels.specs.Tables.{has, looked_up};
 ghost use Rattle.fm_levels.specs.Levels.{count_level, cut_level, joined, put, stands_below};
@@ -67,9 +67,10 @@ impl<'a, V: Drop> Levels<'a, V> {
         self.first.has(name) || self.upper.has(name)
     }
 
-    /// How many names there are in all levels.
+    /// How many names there are in all levels; None where that is no number of 64 bits.
     pub fn count(&self) -> Option<usize>
-        ensures { IfSome result (λ n. n ≡ length (joined self.now)) }
+        ensures some { IfSome result (λ n. n ≡ length (joined self.now)) }
+        ensures none { IfNone result (2 ^ 64 ≤ length (joined self.now)) }
     {
         match self.first.len().checked_add(self.upper.len()) {
             None => None,
