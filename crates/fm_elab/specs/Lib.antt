@@ -5,6 +5,7 @@ pub mod Held
 pub mod Shown
 pub mod Givens
 pub mod Problems
+pub mod Checks
 pub mod Closed
 pub mod Sorted
 pub mod SortLaw
