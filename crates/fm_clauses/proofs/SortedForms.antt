@@ -16,10 +16,8 @@ use Rattle.fm_base.specs.declared.formula.Formula.{Formula}
 use Rattle.fm_base.specs.declared.formula.Formula.TheOpen.{Formula-F}
 use Rattle.fm_base.specs.declared.formula.Fterm
 use Rattle.fm_base.specs.declared.formula.Fterm.{Fterm}
-use Rattle.fm_base.specs.declared.formula.Nnf
 use Rattle.fm_base.specs.declared.formula.Nnf.{Nnf}
 use Rattle.fm_base.specs.declared.formula.Patom.{Patom}
-use Rattle.fm_base.specs.declared.formula.Pterm
 use Rattle.fm_base.specs.declared.formula.Pterm.{Pterm}
 use Rattle.fm_base.proofs.NormalTerms.{Each}
 use Rattle.fm_bank.specs.Sorted.{is_sorted_atom, sort_of}

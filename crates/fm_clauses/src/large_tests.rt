@@ -13,17 +13,18 @@ fn add_formula(alloc: Global, letters: &[u8], list: &mut Vec<Formula>) -> Result
     Ok(())
 }
 
-fn formulas(alloc: Global, letters: &[u8], count: usize) -> Result<Items<Formula>, Memory> {
+fn formulas(alloc: Global, letters: &[u8], count: usize) -> Result<Vec<Formula>, Memory> {
     let mut list = Vec::new(alloc);
     for _ in 0..count {
         add_formula(alloc, letters, &mut list)?;
     }
-    Ok(Items::from_vec(list))
+    Ok(list)
 }
 
-fn count_clauses(alloc: Global, assertions: Items<Formula>) -> Result<usize, Memory> {
+fn count_clauses(alloc: Global, assertions: &[Formula]) -> Result<usize, Memory> {
+    let sig = signature(alloc, 1)?;
     let problem = Problem {
-        sig: signature(alloc, 1)?,
+        sig: &sig,
         assertions,
     };
     let set = clauses_of(alloc, &problem)?;
@@ -36,7 +37,7 @@ const MEMBER: &[u8] = b"0paq&r|A";
 #[test]
 fn makes_clauses_of_many_assertions(rt: HostRuntime) -> Result<(), Fail> {
     let assertions = formulas(rt.alloc(), MEMBER, 33_334)?;
-    assert_eq!(rt; count_clauses(rt.alloc(), assertions)?, 100_002);
+    assert_eq!(rt; count_clauses(rt.alloc(), assertions.as_slice())?, 100_002);
     Ok(())
 }
 
@@ -44,7 +45,7 @@ fn makes_clauses_of_many_assertions(rt: HostRuntime) -> Result<(), Fail> {
 fn makes_clauses_of_one_assertion(rt: HostRuntime) -> Result<(), Fail> {
     let members = formulas(rt.alloc(), MEMBER, 33_334)?;
     let mut list = Vec::new(rt.alloc());
-    list.push(Formula::And(members))?;
-    assert_eq!(rt; count_clauses(rt.alloc(), Items::from_vec(list))?, 100_002);
+    list.push(Formula::And(Items::from_vec(members)))?;
+    assert_eq!(rt; count_clauses(rt.alloc(), list.as_slice())?, 100_002);
     Ok(())
 }

@@ -12,10 +12,10 @@ use sqlite_items::Items;
 use std::alloc::Global;
 
 /// Assertions over a signature, each closed and well sorted, without defined functions.
-#[derive(Drop)]
-pub struct Problem {
-    pub sig: Sig,
-    pub assertions: Items<Formula>,
+#[derive(Clone, Copy)]
+pub struct Problem<'a> {
+    pub sig: &'a Sig,
+    pub assertions: &'a [Formula],
 }
 
 // The number of the next symbol, if it is an index; that many ranks find no room.
@@ -128,20 +128,20 @@ fn grown(alloc: Global, sig: &Sig, made: &[Rank]) -> Result<Sig, Memory>
 /// is no literal (Plaisted and Greenbaum). New symbols are numbered on from the declared functions in the order in which
 /// they are made; last come constants for the sorts of which no ground term stands in a clause.
 pub fn clauses_of(alloc: Global, problem: &Problem) -> Result<ClauseSet, Memory>
-    ensures { IfOk result (λ set. set ≡ clause_table problem.now.sig problem.now.assertions) }
+    ensures { IfOk result (λ set. set ≡ clause_table problem.now.sig.now problem.now.assertions.now) }
 {
     let user = next_symbol(0, problem.sig.ranks.len())?;
     let mut clauses = Vec::new(alloc);
     let mut made = Vec::new(alloc);
     push_assertions(
         alloc,
-        &problem.sig,
-        problem.assertions.as_slice(),
+        problem.sig,
+        problem.assertions,
         user,
         &mut clauses,
         &mut made,
     )?;
-    let symbols = grown(alloc, &problem.sig, made.as_slice())?;
+    let symbols = grown(alloc, problem.sig, made.as_slice())?;
     let mut fresh = Vec::new(alloc);
     push_fresh(alloc, &symbols, clauses.as_slice(), &mut fresh)?;
     let sig = grown(alloc, &symbols, fresh.as_slice())?;

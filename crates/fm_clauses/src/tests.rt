@@ -61,9 +61,10 @@ fn table_text(alloc: Global, sorts: usize, assertions: &[&[u8]]) -> Result<Vec<u
     for letters in assertions {
         formulas.push(built(alloc, letters)?)?;
     }
+    let sig = signature(alloc, sorts)?;
     let problem = Problem {
-        sig: signature(alloc, sorts)?,
-        assertions: Items::from_vec(formulas),
+        sig: &sig,
+        assertions: formulas.as_slice(),
     };
     let set = clauses_of(alloc, &problem)?;
     let mut text = Vec::new(alloc);
