@@ -24,4 +24,4 @@ returns-in-Ok c =
     ap (λ (s : State). let r : Next = Ok s in r)
     (ap (λ (h : Held). with_symbol (state_of h) c.args.name.now c.args.args c.args.ty) (sym c.self.view_is)
     ∙ symbol_added (held_in c.self.inside.declared_sorts c.self.inside.sorts c.self.inside.symbols c.self.inside.functions c.self.inside.arena c.self.inside.assertions c.self.inside.global c.self.inside.begun) c.args.name.now c.args.args c.args.ty c.in-Some.number c.insert_both.new.left c.insert_both.new.right _ _
-    (ap (λ (tys : List Ty). let r : Rank = record { args = tys; result = c.args.ty } in r) copied) refl c.in-Some.ensures c.in-Ok.ensures.left c.in-Ok.ensures.right)
+    (ap (λ (tys : List Ty). let r : Rank = record { args = tys; result = c.args.ty } in r) copied) refl c.in-Some.ensures.some c.in-Ok.ensures.left c.in-Ok.ensures.right)

@@ -9,4 +9,4 @@ use Rattle.fm_elab.proofs.scopes.Scopes.is_large.Goals as goal
 pub returns-in-Some : goal.returns-in-Some
 returns-in-Some c =
     let symbols : List (List ℕ × Rank) = joined c.args.self.now.symbols in
-    c.is_large.ensures (signature (state_of c.args.self.now)) (length-map symbols (λ (e : List ℕ × Rank). e.1) ∙ ap (λ (h : Held). length (joined h.symbols)) (sym c.self.view_is) ∙ sym c.in-Some.ensures)
+    c.is_large.ensures (signature (state_of c.args.self.now)) (length-map symbols (λ (e : List ℕ × Rank). e.1) ∙ ap (λ (h : Held). length (joined h.symbols)) (sym c.self.view_is) ∙ sym c.in-Some.ensures.some)
