@@ -36,7 +36,7 @@ fn begins_block(rest: &[u8]) -> bool
 }
 
 impl Reading {
-    // A block that begins with this line, if it may.
+    /// A block that begins with this line, if it may.
     pub fn begin(alloc: Global, row: Row) -> Option<Reading>
         ensures rows { IfSome result (λ r. rows_so_far r ≡ row ∷ []) }
         ensures next { IfSome result (λ r. after blocks_next row ≡ Some r.place) }
@@ -58,14 +58,14 @@ impl Reading {
         }
     }
 
-    // The block may end here, and what stands behind it isn't of it.
+    /// The block may end here, and what stands behind it isn't of it.
     pub fn ends_at(&self, rest: &[u8]) -> bool
         ensures { result ≡ ends_at self.now.place rest.now }
     {
         self.place.may_end() && begins_block(rest)
     }
 
-    // Takes one more line of the block, if it may stand here. Another block's first line is refused.
+    /// Takes one more line of the block, if it may stand here. Another block's first line is refused.
     pub fn add(&mut self, alloc: Global, row: Row) -> Result<bool, AllocError>
         ensures taken { IfOk result (λ b. b ≡ true → HasTaken self.old self.new row) }
         ensures refused { IfOk result (λ b. b ≡ false → is_begin row ≡ false → HasNoPlace self.old row) }
@@ -189,7 +189,7 @@ impl Reading {
         }
     }
 
-    // The block, once it may end.
+    /// The block, once it may end.
     pub fn block(self) -> Result<Block, AllocError>
         requires { may_end self.place ≡ true }
         ensures { IfOk result (λ b. rows_of_block b ≡ rows_so_far self) }

@@ -29,7 +29,7 @@ pub(crate) enum Next {
 }
 
 impl Next {
-    // Whether the text may end here.
+    /// Whether the text may end here.
     pub fn may_end(self) -> bool
         ensures { result ≡ may_end self }
     {
@@ -39,7 +39,7 @@ impl Next {
         }
     }
 
-    // What may come behind this line, if it may stand here.
+    /// What may come behind this line, if it may stand here.
     pub fn after(self, row: &Row) -> Option<Next>
         ensures { result ≡ after self row.now }
     {

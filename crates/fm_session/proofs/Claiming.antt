@@ -10,10 +10,11 @@ use Rattle.fm_script.specs.Shown.{Shown}
 use Rattle.fm_cert.specs.Claims.{AreGoodFrom}
 use Rattle.fm_cert.specs.Lines.{Problem}
 use Rattle.fm_cert.specs.declared.block.Block.{Block}
+use Rattle.fm_elab.specs.Checks.{going_on, is_check, is_exit, seen_where, seen_with}
 use Rattle.fm_elab.specs.Stacks.{State as Stack}
 use Rattle.fm_elab.specs.Steps.{is_true_name, step_of}
 use Rattle.fm_session.specs.Effects.{Effect, effect_of, effect_where, info_effect, is_end, is_known, option_effect, unsupported}
-use Rattle.fm_session.specs.Problems.{going_on, in_force, is_check, is_exit, problem_where, problems_from, problems_with}
+use Rattle.fm_session.specs.Problems.{in_force, problems_from}
 use Rattle.fm_session.specs.Replies.{AreAnswered, AreBlocks, Past, refusal_by}
 use Rattle.fm_session.specs.Steps.{Goes, Turn, next_read, unless, with_stack}
 use Rattle.fm_session.specs.declared.budget.Budget.{Budget}
@@ -75,7 +76,7 @@ agrees text begun (Shown.GetValue at terms) = record { checks = refl; ends = ref
 agrees text begun (Shown.Echo at literal) = record { checks = refl; ends = refl }
 
 abbrev pub problem_at : Effect → Stack → List Problem
-problem_at e stack = problem_where (is_checking e) stack
+problem_at e stack = seen_where (is_checking e) (in_force stack)
 
 unless_parts : (o : Option Refusal) (e : Effect) (k : Result Stack Refusal) (turn : Turn) → unless o (with_stack e k) ≡ Ok turn → (e ≡ turn.effect) × (k ≡ Ok turn.stack)
 unless_parts (Some r) e k turn h = absurd (cc h)
@@ -129,8 +130,8 @@ problems_next text s x xs turn c =
     let a = agrees text s.stack.begun c.command in
     let checks : is_check c.command ≡ is_checking turn.effect = sym a.checks ∙ ap is_checking c.asks in
     let ends : is_exit c.command ≡ is_end turn.effect = sym a.ends ∙ ap is_end c.asks in
-    ap (λ (read : Result Shown Refusal). problems_with text s.stack read (λ k. problems_from text k xs)) c.is
-    ∙ (ap (λ (b : Bool). problem_where b s.stack ++ going_on (is_exit c.command) (step_of text s.stack c.command) (λ k. problems_from text k xs)) checks
+    ap (λ (read : Result Shown Refusal). seen_with in_force text s.stack read (λ k. problems_from text k xs)) c.is
+    ∙ (ap (λ (b : Bool). seen_where b (in_force s.stack) ++ going_on (is_exit c.command) (step_of text s.stack c.command) (λ k. problems_from text k xs)) checks
     ∙ (ap (λ (b : Bool). problem_at turn.effect s.stack ++ going_on b (step_of text s.stack c.command) (λ k. problems_from text k xs)) ends
     ∙ ap (λ (k : Result Stack Refusal). problem_at turn.effect s.stack ++ going_on (is_end turn.effect) k (λ k. problems_from text k xs)) c.steps))
 

@@ -15,7 +15,7 @@ use Rattle.fm_cert.specs.Lines.{Problem}
 use Rattle.fm_cert.specs.Spelling.{spelling_of_block}
 use Rattle.fm_elab.specs.Stacks.{State as Stack, assertions_in_force, signature}
 use Rattle.fm_elab.specs.Steps.{step_of}
-use Rattle.fm_thin.specs.Tabled.{tabled}
+use Rattle.fm_problem.specs.Tabled.{tabled}
 use Rattle.fm_thin.specs.Thin.{are_thin}
 use Rattle.fm_session.specs.Effects.{Effect, effect_of}
 use Rattle.fm_session.specs.Making.{AnswersTo, IsCertified, blocks_in}

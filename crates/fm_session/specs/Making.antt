@@ -8,7 +8,7 @@ use Rattle.fm_cert.specs.Claims.{ClaimHolds, IsGoodBlock}
 use Rattle.fm_cert.specs.Spelling.{spelling_of_block}
 use Rattle.fm_cert.specs.declared.block.Block.{Block}
 use Rattle.fm_thin.specs.Certified.{IsDecided}
-use Rattle.fm_thin.specs.Tabled.{tabled}
+use Rattle.fm_problem.specs.Tabled.{tabled}
 use Rattle.fm_session.specs.Effects.{Effect}
 use Rattle.fm_session.specs.Replies.{AreBlocks, Past, refusal_by, reply_to, words_of}
 use Rattle.fm_session.specs.declared.session.Answer.{Answer}

@@ -10,9 +10,9 @@ use Rattle.fm_cert.specs.Claims.{ClaimHolds, HasTable, IsGoodBlock}
 use Rattle.fm_cert.specs.Fits.{IsPrintable}
 use Rattle.fm_cert.specs.declared.block.Block.{Block}
 use Rattle.fm_cert.proofs.Sound.{blocks-sound}
-use Rattle.fm_clauses.proofs.ModelLaws.{expand}
+use Rattle.fm_problem.proofs.Tables.{closed_have_tables}
 use Rattle.fm_thin.specs.Certified.{IsDecided, answering_block, block_of, one_element_model, refuting_block}
-use Rattle.fm_thin.specs.Tabled.{tabled}
+use Rattle.fm_problem.specs.Tabled.{tabled}
 use Rattle.fm_thin.specs.Thin.{are_thin, falsity_in, is_thin}
 use Rattle.fm_thin.proofs.Lining.{clauses_made, lines_good, lines_printable, same_set, shows_least, with_clauses}
 use Rattle.fm_thin.proofs.Modelling.{assertions_true, model_fits, sum_of_ones, zero_everywhere}
@@ -26,10 +26,7 @@ parts : (sig : Sig) (fs : List Formula) → Thin sig fs → (names_its_sorts sig
 parts sig fs h = and_parts (names_its_sorts sig) (list_all (is_thin sig) fs) h
 
 pub has_table : (sig : Sig) (fs : List Formula) → Thin sig fs → HasTable (tabled sig fs)
-has_table sig fs thin = record {
-  sorts = refl;
-  expands = λ m is. let x = expand sig fs m (all_closed sig fs (parts sig fs thin).1) is in (x.at, x.interprets, x.satisfies);
-}
+has_table sig fs thin = closed_have_tables sig fs (all_closed sig fs (parts sig fs thin).1)
 
 model_good : (sig : Sig) (fs : List Formula) (number : ℕ) → Thin sig fs → falsity_in sig fs ≡ None → IsGoodBlock (tabled sig fs) (block_of number sig.sorts (length sig.ranks))
 model_good sig fs number thin none =

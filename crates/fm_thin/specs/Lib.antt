@@ -1,3 +1,2 @@
 pub mod Certified
-pub mod Tabled
 pub mod Thin

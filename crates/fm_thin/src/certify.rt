@@ -3,7 +3,7 @@ ghost use Rattle.std.specs.List.{AllByRecursion};
 ghost use Rattle.fm_cert.specs.Claims.{ClaimHolds, IsGoodBlock};
 ghost use Rattle.fm_cert.specs.Fits.{IsPrintable};
 ghost use Rattle.fm_thin.specs.Certified.{answering_block, refuting_block, block_of, lines_of, one_element_model, zero_table, orders, zero_steps, IsDecided};
-ghost use Rattle.fm_thin.specs.Tabled.{tabled};
+ghost use Rattle.fm_problem.specs.Tabled.{tabled};
 ghost use Rattle.fm_thin.specs.Thin.{are_thin};
 
 use crate::thin::falsity;
