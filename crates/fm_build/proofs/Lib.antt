@@ -1,0 +1,11 @@
+pub mod Entering
+pub mod Growing
+pub mod Linking
+pub mod Listing
+pub mod Marked
+pub mod Marking
+pub mod Naming
+pub mod Placing
+pub mod Positions
+pub mod Stopping
+pub mod Writing

@@ -1,0 +1,120 @@
+ghost use Rattle.std.specs.Prelude.{◌≡◌, ◌==◌, Some, IfOk};
+ghost use Rattle.std.specs.List.{position};
+ghost use Rattle.fm_base.specs.declared.ids.TermId.{TermId};
+ghost use Rattle.fm_bank.specs.Terms.{numbers};
+ghost use Rattle.fm_rounds.specs.Failing.{numbered_reps};
+ghost use Rattle.fm_build.specs.Elements.{all_reps_by, element_by, elements_by, is_of_sort as is_of, place_in, reps_by};
+ghost use Rattle.fm_build.specs.Marks.{class_at};
+
+use fm_base::{Memory, SortId, TermId, Ty};
+use sqlite_items::Items;
+use std::alloc::Global;
+
+fn is_of_sort(types: &[Ty], sort: SortId, term: usize) -> bool
+    ensures { result ≡ is_of types.now sort term }
+{
+    match types.get(term) {
+        Some(Ty::Of(other)) => other.0 == sort.0,
+        Some(Ty::Bool) => false,
+        None => false,
+    }
+}
+
+// The representatives of a sort, in their order.
+fn reps_of_sort(
+    alloc: Global,
+    types: &[Ty],
+    reps: &[usize],
+    sort: SortId,
+) -> Result<Items<TermId>, Memory>
+    ensures { IfOk result (λ ts. numbers ts ≡ reps_by types.now reps.now sort.0) }
+{
+    let mut found = Items::new(alloc);
+    for rep in reps {
+        if is_of_sort(types, sort, *rep) {
+            found.push(TermId(*rep))?;
+        }
+    }
+    Ok(found)
+}
+
+pub(crate) fn reps_by_sort(
+    alloc: Global,
+    types: &[Ty],
+    reps: &[usize],
+    sorts: usize,
+) -> Result<Items<Items<TermId>>, Memory>
+    ensures { IfOk result (λ all. numbered_reps all ≡ all_reps_by types.now reps.now sorts) }
+{
+    let mut all = Items::new(alloc);
+    for sort in 0..sorts {
+        let found = reps_of_sort(alloc, types, reps, SortId(sort))?;
+        all.push(found)?;
+    }
+    Ok(all)
+}
+
+fn class_of(class: &[usize], term: usize) -> usize
+    ensures { result ≡ class_at class.now term }
+{
+    class.get(term).copied().unwrap_or(0)
+}
+
+fn first_place(class: &[usize], reps: &[TermId], own: usize) -> Option<usize>
+    ensures { result ≡ position (λ (r : TermId). class_at class.now r.0 == own) reps.now }
+{
+    reps.iter().position(|rep| class_of(class, rep.0) == own)
+}
+
+// The place of the term's class among representatives, or their number.
+fn place(class: &[usize], reps: &[TermId], term: usize) -> usize
+    ensures { result ≡ place_in class.now term (Some reps.now) }
+{
+    match first_place(class, reps, class_of(class, term)) {
+        Some(place) => place,
+        None => reps.len(),
+    }
+}
+
+fn element(
+    class: &[usize],
+    types: &[Ty],
+    holds: &[bool],
+    reps: &[Items<TermId>],
+    term: usize,
+) -> u64
+    ensures { result ≡ element_by class.now types.now holds.now reps.now term }
+{
+    match types.get(term) {
+        None => 0,
+        Some(Ty::Bool) => {
+            if holds.get(term).copied().unwrap_or(false) {
+                1
+            } else {
+                0
+            }
+        }
+        Some(Ty::Of(sort)) => match reps.get(sort.0) {
+            None => 0,
+            Some(reps) => place(class, reps.as_slice(), term) as u64,
+        },
+    }
+}
+
+// The element of each term's class; of a predicate term whether it is joined with yes.
+pub(crate) fn all_elements(
+    alloc: Global,
+    class: &[usize],
+    types: &[Ty],
+    holds: &[bool],
+    reps: &[Items<TermId>],
+) -> Result<Vec<u64>, Memory>
+    ensures { IfOk result (λ v. v.items ≡ elements_by class.now types.now holds.now reps.now) }
+{
+    let mut elements = Vec::new(alloc);
+    for term in 0..class.len() {
+        let element = element(class, types, holds, reps, term);
+        elements.push(element)?;
+    }
+    Ok(elements)
+}
