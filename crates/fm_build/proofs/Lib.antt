@@ -1,3 +1,4 @@
+pub mod Building
 pub mod Entering
 pub mod Growing
 pub mod Linking
@@ -8,4 +9,6 @@ pub mod Naming
 pub mod Placing
 pub mod Positions
 pub mod Stopping
+pub mod Tabulating
+pub mod Valuing
 pub mod Writing

@@ -1,3 +1,4 @@
+pub mod Built
 pub mod Elements
 pub mod Entries
 pub mod Marks

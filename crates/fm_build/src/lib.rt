@@ -1,6 +1,7 @@
 //! The candidate: the interpretation that the classes of terms suggest, round by round.
 #![tactic(auto)]
 
+mod assembly;
 mod elements;
 mod entries;
 mod instance;
