@@ -1,5 +1,6 @@
 pub mod Building
 pub mod Entering
+pub mod Grounding
 pub mod Growing
 pub mod Linking
 pub mod Listing
@@ -8,7 +9,9 @@ pub mod Marking
 pub mod Naming
 pub mod Placing
 pub mod Positions
+pub mod Starting
 pub mod Stopping
 pub mod Tabulating
+pub mod Typing
 pub mod Valuing
 pub mod Writing

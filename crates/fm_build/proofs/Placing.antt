@@ -15,7 +15,7 @@ cond_behind : (x : ℕ) (xs ys : List ℕ) (b : Bool) → cond b (x ∷ (xs ++ y
 cond_behind x xs ys true = refl
 cond_behind x xs ys false = refl
 
-filter_append : (p : ℕ → Bool) (xs ys : List ℕ) → filter p (xs ++ ys) ≡ filter p xs ++ filter p ys
+pub filter_append : (p : ℕ → Bool) (xs ys : List ℕ) → filter p (xs ++ ys) ≡ filter p xs ++ filter p ys
 filter_append p [] ys = refl
 filter_append p (x ∷ xs) ys = ap (λ l. cond (p x) (x ∷ l) l) (filter_append p xs ys) ∙ cond_behind x (filter p xs) (filter p ys) (p x)
 

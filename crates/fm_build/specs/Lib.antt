@@ -1,7 +1,11 @@
 pub mod Built
 pub mod Elements
 pub mod Entries
+pub mod Fresh
+pub mod Gathering
+pub mod Instancing
 pub mod Marks
 pub mod Named
+pub mod Parts
 pub mod Reached
 pub mod Written

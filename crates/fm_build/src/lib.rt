@@ -2,12 +2,18 @@
 #![tactic(auto)]
 
 mod assembly;
+mod classes;
 mod elements;
 mod entries;
+mod gathering;
 mod instance;
+mod instances;
 mod laws;
 mod marks;
 mod rounds;
+mod start;
+mod suggest;
 mod tables;
 
 pub use laws::tuples_are_named;
+pub use suggest::candidate;
