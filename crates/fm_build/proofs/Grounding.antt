@@ -22,7 +22,7 @@ use Rattle.fm_rounds.proofs.Subterms.{instance_terms_hold, start_terms_hold}
 use Rattle.fm_build.specs.Built.{IsContentOf}
 use Rattle.fm_build.specs.Instancing.{contents_of, instance_content}
 use Rattle.fm_build.specs.Marks.{AreBelow, class_at}
-use Rattle.fm_build.specs.Parts.{AreClasses, AreFirstOrder, AreInstancesOver, AreTruths, AreTypes, IsBankFor, IsGraphOver, content_by, term_of}
+use Rattle.fm_build.specs.Parts.{AreClasses, AreFirstOrder, AreInstancesOver, AreTruths, AreTypes, ContentsAreGrounded, IsBankFor, IsGraphOver, content_by, term_of}
 use Rattle.fm_build.specs.Reached.{AreInstancesBelow, pair_of, pairs_of}
 use Rattle.fm_build.specs.declared.instance.Instance.{Instance}
 use Rattle.fm_build.proofs.Typing.{all_has, types_follow}
@@ -195,3 +195,6 @@ module _ (set : ClauseSet) (b : Bank) (g : Graph) (added : List (ℕ × List ℕ
       begun = sym begun;
       more = sym more;
     }
+
+pub contents_grounded : ContentsAreGrounded
+contents_grounded set b g added t held logic bank over instances tests = is_grounded set b g added logic held bank over instances t tests

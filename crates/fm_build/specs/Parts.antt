@@ -7,7 +7,7 @@ use Rattle.fm_base.specs.Resolution.{Has}
 use Rattle.fm_base.specs.declared.signature.Rank.{Rank}
 use Rattle.fm_base.specs.declared.signature.Ty.{Ty}
 use Rattle.fm_bank.specs.Closure.{Shape, object, yes}
-use Rattle.fm_bank.specs.Interning.{Held as Bank}
+use Rattle.fm_bank.specs.Interning.{Held as Bank, IsHeld}
 use Rattle.fm_bank.specs.Sorted.{is_sorted_clause}
 use Rattle.fm_bank.specs.Terms.{Term, is_type, type_of}
 use Rattle.fm_bank.specs.Tests.{Tests}
@@ -16,9 +16,10 @@ use Rattle.fm_cong.specs.Held.{AreEqual, Held as Graph, IsRegistered}
 use Rattle.fm_cong.specs.Tests.{AreTestsOf}
 use Rattle.fm_cong.specs.Types.{IsOldestOf}
 use Rattle.fm_cong.specs.declared.fact.Fact.{Fact}
-use Rattle.fm_rounds.specs.Grounds.{AreTermsOf, is_declared}
+use Rattle.fm_rounds.specs.Grounds.{AreTermsOf, IsGrounded, is_declared}
 use Rattle.fm_rounds.specs.InstanceTerms.{start_terms}
 use Rattle.fm_rounds.specs.Rounds.{Content, content_of}
+use Rattle.fm_rounds.specs.Soundness.{CandidateHolds}
 use Rattle.fm_rounds.specs.declared.answers.Candidate.{Candidate}
 use Rattle.fm_build.specs.Built.{IsCandidateOf}
 use Rattle.fm_build.specs.Marks.{class_at}
@@ -54,6 +55,16 @@ content_by set b added t = content_of set b.terms t.same added
 -- the candidate of the content by the graph
 abbrev pub IsCandidateBy : ClauseSet → Bank → Graph → List (ℕ × List ℕ) → Candidate → Type 0
 IsCandidateBy set b g added k = (t : Tests) → AreTestsOf g t → IsCandidateOf (content_by set b added t) k
+
+-- what a candidate is good for holds of that content: among others, each reached term has the element of its class as value
+abbrev pub CandidateHoldsBy : ClauseSet → Bank → Graph → List (ℕ × List ℕ) → Type 0
+CandidateHoldsBy set b g added = (t : Tests) → AreTestsOf g t → CandidateHolds (content_by set b added t)
+
+-- such parts make a content of which the laws of candidates hold
+abbrev pub ContentsAreGrounded : Type 0
+ContentsAreGrounded =
+    (set : ClauseSet) (b : Bank) (g : Graph) (added : List (ℕ × List ℕ)) (t : Tests) → IsHeld b.sig b.terms b.atoms → AreFirstOrder set → IsBankFor set b
+    → IsGraphOver b g → AreInstancesOver b added → AreTestsOf g t → IsGrounded (content_by set b added t)
 
 -- the class of each term is the number of the oldest in it
 pub record AreClasses (g : Graph) (count : ℕ) (class : List ℕ) : Type 0 where

@@ -1,9 +1,10 @@
-ghost use Rattle.std.specs.Prelude.{◌≡◌, ◌++◌, map, slice_get, IfOk, OnOk};
+ghost use Rattle.std.specs.Prelude.{◌≡◌, ◌++◌, slice_get, IfOk, OnOk};
 ghost use Rattle.std.specs.Option.{option_map};
 ghost use Rattle.fm_bank.specs.Instances.{all_there as all_there_of};
 ghost use Rattle.fm_bank.specs.Terms.{number_found, numbers};
-ghost use Rattle.fm_rounds.specs.InstanceTerms.{as_list, atom_terms, clause_terms, subterms};
-ghost use Rattle.fm_build.specs.Gathering.{all_found, all_gathered, all_numbered, application_gathered, found_applied, term_gathered};
+ghost use Rattle.fm_rounds.specs.InstanceTerms.{as_list};
+ghost use Rattle.fm_build.specs.Gathering.{all_found, all_gathered, all_numbered, applied, atom_gathered};
+ghost use Rattle.fm_build.specs.Gathering.{found_applied, gathered, literals_gathered};
 
 use fm_bank::{Bank, Plit};
 use fm_base::{Memory, Patom, Pterm, SymId, TermId};
@@ -38,7 +39,7 @@ fn find_applied(
     symbol: SymId,
     args: &[Option<TermId>],
 ) -> Result<Option<TermId>, Memory>
-    ensures { IfOk result (λ o. number_found o ≡ found_applied bank.now.terms symbol args.now) }
+    ensures { IfOk result (λ o. number_found o ≡ found_applied bank.now symbol args.now) }
 {
     match all_there(alloc, args)? {
         None => Ok(None),
@@ -61,8 +62,8 @@ fn put_subterms(
     subst: &[TermId],
     found: &mut Vec<usize>,
 ) -> Result<Option<TermId>, Memory>
-    ensures number { IfOk result (λ o. number_found o ≡ (term_gathered term.now bank.now.terms subst.now).0) }
-    ensures terms { OnOk result (found.new.items ≡ found.old.items ++ (term_gathered term.now bank.now.terms subst.now).1) }
+    ensures number { IfOk result (λ o. number_found o ≡ (gathered term.now bank.now subst.now).0) }
+    ensures terms { OnOk result (found.new.items ≡ found.old.items ++ (gathered term.now bank.now subst.now).1) }
 {
     match term {
         Pterm::Var(variable) => {
@@ -85,8 +86,8 @@ fn put_application(
     subst: &[TermId],
     found: &mut Vec<usize>,
 ) -> Result<Option<TermId>, Memory>
-    ensures number { IfOk result (λ o. number_found o ≡ (application_gathered symbol args.now bank.now.terms subst.now).0) }
-    ensures terms { OnOk result (found.new.items ≡ found.old.items ++ (application_gathered symbol args.now bank.now.terms subst.now).1) }
+    ensures number { IfOk result (λ o. number_found o ≡ (applied symbol args.now bank.now subst.now).0) }
+    ensures terms { OnOk result (found.new.items ≡ found.old.items ++ (applied symbol args.now bank.now subst.now).1) }
 {
     let owns = put_all(alloc, bank, args, subst, found)?;
     let own = find_applied(alloc, bank, symbol, owns.as_slice())?;
@@ -103,8 +104,8 @@ fn put_all(
     subst: &[TermId],
     found: &mut Vec<usize>,
 ) -> Result<Vec<Option<TermId>>, Memory>
-    ensures numbers { IfOk result (λ v. all_found v.items ≡ all_numbered (map subterms args.now) bank.now.terms subst.now) }
-    ensures terms { OnOk result (found.new.items ≡ found.old.items ++ all_gathered (map subterms args.now) bank.now.terms subst.now) }
+    ensures numbers { IfOk result (λ v. all_found v.items ≡ all_numbered args.now bank.now subst.now) }
+    ensures terms { OnOk result (found.new.items ≡ found.old.items ++ all_gathered args.now bank.now subst.now) }
 {
     let mut owns = Vec::new(alloc);
     for arg in args {
@@ -121,7 +122,7 @@ fn put_atom(
     subst: &[TermId],
     found: &mut Vec<usize>,
 ) -> Result<(), Memory>
-    ensures { OnOk result (found.new.items ≡ found.old.items ++ atom_terms bank.now.terms (numbers subst.now) atom.now) }
+    ensures { OnOk result (found.new.items ≡ found.old.items ++ atom_gathered atom.now bank.now subst.now) }
 {
     match atom {
         Patom::Pred(symbol, args) => {
@@ -144,7 +145,7 @@ pub(crate) fn put_literals(
     subst: &[TermId],
     found: &mut Vec<usize>,
 ) -> Result<(), Memory>
-    ensures { OnOk result (found.new.items ≡ found.old.items ++ clause_terms bank.now.terms (numbers subst.now) lits.now) }
+    ensures { OnOk result (found.new.items ≡ found.old.items ++ literals_gathered lits.now bank.now subst.now) }
 {
     for lit in lits {
         put_atom(alloc, bank, &lit.atom, subst, found)?;

@@ -1,10 +1,7 @@
-ghost use Rattle.std.specs.Prelude.{◌≡◌, ◌++◌, IfOk, OnOk};
+ghost use Rattle.std.specs.Prelude.{◌≡◌, IfOk, OnOk};
 ghost use Rattle.fm_bank.specs.Terms.{numbers};
-ghost use Rattle.fm_rounds.specs.Failing.{numbered};
-ghost use Rattle.fm_rounds.specs.InstanceTerms.{clause_terms};
-ghost use Rattle.fm_rounds.specs.Rounds.{literals_at};
-ghost use Rattle.fm_build.specs.Instancing.{contents_of, instance_content};
-ghost use Rattle.fm_build.specs.Reached.{pair_of, pairs_of};
+ghost use Rattle.fm_build.specs.Instancing.{PutsInstances, instance_content};
+ghost use Rattle.fm_build.specs.Reached.{pair_of};
 
 use crate::gathering::put_literals;
 use crate::instance::Instance;
@@ -30,7 +27,7 @@ fn terms_at(
     place: usize,
     subst: &[TermId],
 ) -> Result<Vec<usize>, Memory>
-    ensures { IfOk result (λ v. v.items ≡ clause_terms bank.now.terms (numbers subst.now) (literals_at clauses.now.clauses place)) }
+    ensures { IfOk result (λ v. v.items ≡ (instance_content clauses.now bank.now.terms (place, numbers subst.now)).1) }
 {
     let mut found = Vec::new(alloc);
     if let Some(clause) = clauses.clauses.get(place) {
@@ -61,7 +58,7 @@ pub(crate) fn put_instances(
     added: &[(usize, Items<TermId>)],
     instances: &mut Vec<Instance>,
 ) -> Result<(), Memory>
-    ensures { OnOk result (pairs_of instances.new.items ≡ pairs_of instances.old.items ++ contents_of clauses.now bank.now.terms (numbered added.now)) }
+    ensures { OnOk result (PutsInstances clauses.now bank.now.terms added.now instances.old.items instances.new.items) }
 {
     for item in added {
         let instance = instance_of(alloc, clauses, bank, item.0, item.1.as_slice())?;

@@ -14,6 +14,8 @@ mod rounds;
 mod start;
 mod suggest;
 mod tables;
+#[cfg(test)]
+mod tests;
 
-pub use laws::tuples_are_named;
+pub use laws::{contents_are_grounded, tuples_are_named};
 pub use suggest::candidate;

@@ -1,7 +1,9 @@
-ghost use Rattle.std.specs.Prelude.{IfOk};
+ghost use Rattle.std.specs.Prelude.{◌≡◌, true, IfOk, OnOk};
+ghost use Rattle.fm_base.specs.Interpretations.{is_fit};
 ghost use Rattle.fm_cong.specs.Held.{IsSettled};
 ghost use Rattle.fm_rounds.specs.Failing.{numbered};
-ghost use Rattle.fm_build.specs.Parts.{AreFirstOrder, AreInstancesOver, IsBankFor, IsCandidateBy, IsGraphOver};
+ghost use Rattle.fm_build.specs.Parts.{AreFirstOrder, AreInstancesOver, CandidateHoldsBy};
+ghost use Rattle.fm_build.specs.Parts.{IsBankFor, IsCandidateBy, IsGraphOver};
 
 use crate::assembly::assembled;
 use crate::classes::{classes_of, truths_of, types_of};
@@ -30,9 +32,12 @@ pub fn candidate(
     requires settled { IsSettled graph.now }
     requires graph { IsGraphOver bank.now graph.now }
     requires added { AreInstancesOver bank.now (numbered added.now) }
-    ensures { IfOk result (IsCandidateBy clauses.now bank.now graph.now (numbered added.now)) }
+    ensures candidate { IfOk result (IsCandidateBy clauses.now bank.now graph.now (numbered added.now)) }
+    ensures fits { IfOk result (λ k. is_fit clauses.now.sig k.interp ≡ true) }
+    ensures holds { OnOk result (CandidateHoldsBy clauses.now bank.now graph.now (numbered added.now)) }
 {
     bank.one_number_per_term();
+    graph.has_tests();
     let start = start_of(alloc, clauses, bank)?;
     let mut instances = Vec::new(alloc);
     put_instances(alloc, clauses, bank, added, &mut instances)?;
