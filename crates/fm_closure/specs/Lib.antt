@@ -1,2 +1,4 @@
+pub mod Asked
 pub mod Classes
 pub mod Facts
+pub mod Signatures
