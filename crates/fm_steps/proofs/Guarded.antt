@@ -66,7 +66,7 @@ adds_guarded atoms cs ls known h g = push_guarded (size_at (with_atoms atoms ls)
 pub no_size : (ls : List Literal) → ((k : Literal) → Has ls k → is_size k.atom ≡ false) → AreGuards ls
 no_size ls none k h size = absurd (false≢true (sym (none k h) ∙ size))
 
-read_ground : (atoms : List Atom) (es : List Entry) (k : Literal) → Has (opposites (ground_literals_of atoms es)) k → is_size k.atom ≡ false
+pub read_ground : (atoms : List Atom) (es : List Entry) (k : Literal) → Has (opposites (ground_literals_of atoms es)) k → is_size k.atom ≡ false
 read_ground atoms es k h =
     let r = mapped_has (λ (l : Literal). record { positive = not l.positive; atom = l.atom }) (ground_literals_of atoms es) k h in
     let q = not-true (is_size r.lit.atom) (Has-passes (λ (l : Literal). not (is_size l.atom)) (literals_of atoms es) r.lit r.has) in
@@ -82,7 +82,7 @@ sum_has : (s : State) (u : ℕ) (ks : List ℕ) → Has (sum_literals s u ks) (l
 sum_has s u [] = inl refl
 sum_has s u (k ∷ ks) = inr (sum_has s (u + 1) ks)
 
-value_ground : (atoms : List Atom) (es : List Entry) (t : Tests) (a : Atom) (v : Bool) (k : Literal) → decides t a v ≡ true → (k ≡ lit v a) ⊎ Has (opposites (ground_literals_of atoms es)) k → is_size k.atom ≡ false
+pub value_ground : (atoms : List Atom) (es : List Entry) (t : Tests) (a : Atom) (v : Bool) (k : Literal) → decides t a v ≡ true → (k ≡ lit v a) ⊎ Has (opposites (ground_literals_of atoms es)) k → is_size k.atom ≡ false
 value_ground atoms es t a v k d (inl e) = ap (λ (l : Literal). is_size l.atom) e ∙ decided_ground t a v d
 value_ground atoms es t a v k d (inr h) = read_ground atoms es k h
 
@@ -111,7 +111,7 @@ kept_by : (b : Bool) (kept : List Literal) (l k : Literal) → Has (cond b kept 
 kept_by true kept l k h = inl h
 kept_by false kept l k h = elim (Has-append kept (l ∷ []) k h) [ inl q ↦ inl q | inr q ↦ inr (only_one l k q) ]
 
-places_from : (kept ls : List Literal) (k : Literal) → Has (first_places kept ls) k → Has kept k ⊎ Has ls k
+pub places_from : (kept ls : List Literal) (k : Literal) → Has (first_places kept ls) k → Has kept k ⊎ Has ls k
 places_from kept [] k h = inl h
 places_from kept (l ∷ ls) k h =
     elim (places_from (with_literal kept l) ls k h) [

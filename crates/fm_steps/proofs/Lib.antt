@@ -17,3 +17,6 @@ pub mod Readers
 pub mod Menus
 pub mod Deciding
 pub mod Ready
+pub mod Closing
+pub mod Due
+pub mod Written

@@ -1,7 +1,8 @@
 -- Membership and places.
-use Rattle.std.proofs.Common.{◌≡◌, ℕ, zero, suc, ◌⊎◌, Bool, true, false, cond, List, [], ◌∷◌, ◌++◌, length, take, slice_get, Some, inl, inr, refl, sym, ap, ◌∙◌}
-use Rattle.std.specs.List.{filter, list_any}
+use Rattle.std.proofs.Common.{◌≡◌, ℕ, zero, suc, ◌⊎◌, Bool, true, false, cond, List, [], ◌∷◌, ◌++◌, length, take, slice_get, Some, inl, inr, refl, sym, ap, subst, ◌∙◌, arith}
+use Rattle.std.specs.List.{All, Contains, filter, list_any}
 use Rattle.std.proofs.lemmas.Bool.{false≢true, or_cases, or_left, or_right}
+use Rattle.std.proofs.lemmas.List.Elements.{All-cons, All-head, All-nil, All-tail}
 use Rattle.fm_base.specs.Resolution.{AreDistinct, Has}
 
 pub Has-get : {X : Type 0} (xs : List X) (i : ℕ) (x : X) → slice_get xs i ≡ Some x → Has xs x
@@ -56,3 +57,18 @@ passes_step p y ys x false q h rec = rec h
 pub Has-passes : {X : Type 0} (p : X → Bool) (xs : List X) (x : X) → Has (filter p xs) x → p x ≡ true
 Has-passes p [] x h = absurd h
 Has-passes p (y ∷ ys) x h = passes_step p y (filter p ys) x (p y) refl h (Has-passes p ys x)
+
+-- what holds of all
+pub all_has : {X : Type 0} (P : X → Type 0) (xs : List X) (x : X) → All P xs → Has xs x → P x
+all_has P [] x a h = absurd h
+all_has P (y ∷ ys) x a (inl e) = subst P e (All-head P y ys a)
+all_has P (y ∷ ys) x a (inr h) = all_has P ys x (All-tail P y ys a) h
+
+pub all_from : {X : Type 0} (P : X → Type 0) (xs : List X) → ((x : X) → Has xs x → P x) → All P xs
+all_from P [] h = All-nil P
+all_from P (y ∷ ys) h = All-cons P y ys (h y (inl refl)) (all_from P ys (λ x q. h x (inr q)))
+
+pub Has-contains : {X : Type 0} (xs : List X) (x : X) → Has xs x → Contains xs x
+Has-contains [] x h = absurd h
+Has-contains (y ∷ ys) x (inl e) = (0, omega arith, e)
+Has-contains (y ∷ ys) x (inr h) = let r = Has-contains ys x h in let lt = r.1 in (suc r.0, omega (arith, lt), r.2)

@@ -128,7 +128,7 @@ find_all [] atoms a n h = h
 find_all (l ∷ ls) atoms a n h = find_all ls (with_atom atoms l.atom) a n (find_by (list_any (is_same_atom l.atom) atoms) atoms l.atom a n h)
 
 -- whether an atom is a size atom, by its number
-get_place : (atoms : List Atom) (a : Atom) → list_any (is_same_atom a) atoms ≡ true → slice_get atoms (position_or_len (is_same_atom a) atoms) ≡ Some a
+pub get_place : (atoms : List Atom) (a : Atom) → list_any (is_same_atom a) atoms ≡ true → slice_get atoms (position_or_len (is_same_atom a) atoms) ≡ Some a
 get_place [] a h = absurd (false≢true h)
 get_place (x ∷ xs) a h =
     elim (cases_Bool (is_same_atom a x)) [

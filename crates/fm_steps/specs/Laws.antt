@@ -46,3 +46,7 @@ AnswersEndRuns = (p : Problem) (b : Budget) (s : State) (w : Word) (e : Event) (
 -- the counts of every state of a run are those of its events
 abbrev pub RunsAreCounted : Type 0
 RunsAreCounted = (p : Problem) (b : Budget) (events : List Event) (s : State) → IsReached p b events s → AreCounted events s
+
+-- in each state there are tests that say what the two readers of equalities know
+abbrev pub EachIsKnown : Type 0
+EachIsKnown = (s : State) → (k : Known) × IsKnown s k

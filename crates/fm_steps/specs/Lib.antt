@@ -1,6 +1,7 @@
 pub mod Content
 pub mod Facts
 pub mod Laws
+pub mod Lines
 pub mod Lemmas
 pub mod Menu
 pub mod Picks

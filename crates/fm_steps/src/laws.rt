@@ -1,7 +1,8 @@
 ghost use Rattle.fm_steps.specs.Facts.{AtomsAreKnown, ClausesAreGuarded, HeadsAreWithin, InstancesAreCounted, IsLawful, PicksAreKnown, SizesAreAssumed, SmallerAreRefuted, TrailIsExplained};
+ghost use Rattle.fm_steps.specs.Lines.{LemmasAreLines, RowsAreWritten};
 ghost use Rattle.fm_steps.specs.Readers.{ReadersCloseLevels, ReadersGoBack, ReadersStay};
 ghost use Rattle.fm_steps.specs.Ready.{DecideIsReady, InstanceIsReady, LearnIsReady, RaiseIsReady, SatIsReady, SplitIsReady, TakeIsReady, TurnIsReady, UnitIsReady, UnsatIsReady};
-ghost use Rattle.fm_steps.specs.Laws.{AnswersEndRuns, HasAtStart, HoldsInRuns, IsKeptBySteps, IsLeftByMoves, RunsAreCounted, WrongEventsEndNoRun};
+ghost use Rattle.fm_steps.specs.Laws.{AnswersEndRuns, EachIsKnown, HasAtStart, HoldsInRuns, IsKeptBySteps, IsLeftByMoves, RunsAreCounted, WrongEventsEndNoRun};
 
 /// The start is lawful, no positive size literal stands at level 0, and the equalities of its cliques are known. It is a
 /// law of the definitions and does nothing.
@@ -70,4 +71,22 @@ pub fn offers_are_ready()
     ensures instance { InstanceIsReady }
     ensures sat { SatIsReady }
     ensures raise { RaiseIsReady }
+{}
+
+/// In each state there are tests that say what the two readers of equalities know, since congruence closure can be computed.
+/// It is a law of the definitions and does nothing.
+pub fn states_are_known()
+    ensures { EachIsKnown }
+{}
+
+/// A lemma that is due is the clause of a good line of a certificate: of congruence closure, of a cardinality, of the sum or
+/// of order. It is a law of the definitions and does nothing.
+pub fn lemmas_are_lines()
+    ensures { LemmasAreLines }
+{}
+
+/// What each event whose row is met adds to the terms and to the clause list is what its lines make: a resolution, the line of
+/// a lemma, or an instance behind its new terms. It is a law of the definitions and does nothing.
+pub fn rows_are_written()
+    ensures { RowsAreWritten }
 {}

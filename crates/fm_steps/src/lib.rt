@@ -5,6 +5,6 @@
 mod laws;
 
 pub use laws::{
-    events_keep, offers_are_ready, readers_go_back, runs_are_lawful, runs_follow_the_menu,
-    start_is_lawful, steps_keep,
+    events_keep, lemmas_are_lines, offers_are_ready, readers_go_back, rows_are_written,
+    runs_are_lawful, runs_follow_the_menu, start_is_lawful, states_are_known, steps_keep,
 };
