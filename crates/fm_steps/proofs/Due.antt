@@ -42,7 +42,7 @@ pub same_if : {X : Type 0} (xs ys : List X) → xs ≡ ys → SameSet xs ys
 same_if xs ys e = subst (SameSet xs) e (λ x. (λ h. h, λ h. h))
 
 -- each atom that is known is one over the terms
-atom_step : (sig : Sig) (terms : List Term) (before atoms : List Atom) (a : Atom) → are_atoms_after sig terms before atoms ≡ true → Has atoms a → is_atom sig terms a ≡ true
+pub atom_step : (sig : Sig) (terms : List Term) (before atoms : List Atom) (a : Atom) → are_atoms_after sig terms before atoms ≡ true → Has atoms a → is_atom sig terms a ≡ true
 atom_step sig terms before [] a e h = absurd h
 atom_step sig terms before (b ∷ bs) a e (inl s) = subst (λ (x : Atom). is_atom sig terms x ≡ true) s (and_parts (is_atom sig terms b) (not (list_any (is_same_atom b) before) && are_atoms_after sig terms (before ++ b ∷ []) bs) e).0
 atom_step sig terms before (b ∷ bs) a e (inr h) =

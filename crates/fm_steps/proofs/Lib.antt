@@ -20,3 +20,7 @@ pub mod Ready
 pub mod Closing
 pub mod Due
 pub mod Written
+pub mod Tested
+pub mod Held
+pub mod Begun
+pub mod Runs

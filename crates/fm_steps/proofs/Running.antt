@@ -7,7 +7,7 @@ use Rattle.fm_steps.specs.Menu.{menu_of}
 use Rattle.fm_steps.specs.Facts.{IsLawful, PicksAreKnown, SizesAreAssumed}
 use Rattle.fm_steps.specs.Picks.{IsKnown, Known}
 use Rattle.fm_steps.specs.Rows.{Offer}
-use Rattle.fm_steps.specs.Runs.{IsReached, Move, Run, carried, event_of}
+use Rattle.fm_steps.specs.Runs.{IsReached, IsStart, Move, Run, Step, carried, event_of}
 use Rattle.fm_steps.specs.State.{Budget, Problem, State}
 use Rattle.fm_steps.proofs.Explained.{move_explained}
 use Rattle.fm_steps.proofs.Freely.{step_assumed}
@@ -36,20 +36,24 @@ pub record IsGood (p : Problem) (s : State) : Type 0 where
   pub sizes : SizesAreAssumed s
   pub picks : PicksAreKnown s
 
+pub step_good : (p : Problem) (b : Budget) (s : State) (e : Event) (t : State) → IsGood p s → Step p b s e t → IsGood p t
+step_good p b s e t h step = record {
+  lawful = move_lawful p b s step.known (carried b s step.offer) t h.lawful step.move;
+  sizes = step_assumed p b s e t h.lawful h.sizes step;
+  picks = move_picks p b s step.known (carried b s step.offer) t h.lawful step.move;
+}
+
+pub begun_good : (p : Problem) (s : State) → IsStart p s → IsGood p s
+begun_good p s st = record { lawful = start_lawful p s st; sizes = start_assumed p s st; picks = settled_picks _ s st }
+
 run_good : (p : Problem) (b : Budget) (s : State) (es : List Event) (t : State) → IsGood p s → Run p b s es t → IsGood p t
 run_good p b s [] t h r = subst (IsGood p) (sym r) h
 run_good p b s (e ∷ es) t h r =
-    let step = r.1 in
-    let next : IsGood p r.0 = record {
-      lawful = move_lawful p b s step.known (carried b s step.offer) r.0 h.lawful step.move;
-      sizes = step_assumed p b s e r.0 h.lawful h.sizes step;
-      picks = move_picks p b s step.known (carried b s step.offer) r.0 h.lawful step.move;
-    } in
-    run_good p b r.0 es t next r.3
+    run_good p b r.0 es t (step_good p b s e r.0 h r.1) r.3
 
 pub reached_good : (p : Problem) (b : Budget) (events : List Event) (s : State) → IsReached p b events s → IsGood p s
 reached_good p b events s h =
-    run_good p b h.first events s (record { lawful = start_lawful p h.first h.start; sizes = start_assumed p h.first h.start; picks = settled_picks _ h.first h.start }) h.run
+    run_good p b h.first events s (begun_good p h.first h.start) h.run
 
 -- what is carried out is offered
 pub offered_only : (p : Problem) (b : Budget) (s : State) (e : Event) (es : List Event) (t : State) → ((k : Known) (o : Offer) → IsKnown s k → Has (menu_of p s k) o → e ≢ event_of s (carried b s o)) → Run p b s (e ∷ es) t → ⊥

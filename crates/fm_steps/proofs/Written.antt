@@ -206,7 +206,7 @@ range_at a zero i lt = absurd (omega (arith, lt))
 range_at a (suc n) zero lt = ap Some (omega arith)
 range_at a (suc n) (suc i) lt = range_at (a + 1) n i (omega (arith, lt)) ∙ ap Some (omega arith)
 
-named_typed : (k : Content) (vars : List SortId) (xs : List ℕ) → list_all (λ (s : SortId). nat_lt s.0 k.sig.sorts) vars ≡ true → IsElements (candidate_reading k) vars xs → are_of_types k.sig k.terms (named_of (representatives k) vars xs) (types_of vars) ≡ true
+pub named_typed : (k : Content) (vars : List SortId) (xs : List ℕ) → list_all (λ (s : SortId). nat_lt s.0 k.sig.sorts) vars ≡ true → IsElements (candidate_reading k) vars xs → are_of_types k.sig k.terms (named_of (representatives k) vars xs) (types_of vars) ≡ true
 named_typed k [] [] sorts h = refl
 named_typed k [] (x ∷ xs) sorts h = absurd h
 named_typed k (s ∷ ss) [] sorts h = absurd h

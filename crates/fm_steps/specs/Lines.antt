@@ -1,26 +1,32 @@
 -- The terms and the clause list of a state as what good lines of a certificate make, and the lines of each event.
-use Rattle.std.specs.Prelude.{◌≡◌, ℕ, ◌-◌, ◌<◌, ◌^◌, nat_lt, Bool, true, List, [], ◌∷◌, ◌++◌, drop, get_or, length, map, slice_get, Some}
+use Rattle.std.specs.Prelude.{◌≡◌, ℕ, zero, suc, ◌+◌, ◌-◌, ◌<◌, ◌^◌, ◌==◌, nat_lt, Bool, true, if◌then◌else◌, List, [], ◌∷◌, ◌++◌, drop, get_or, length, map, slice_get, Some}
 use Rattle.std.specs.List.{list_all, range_with_len}
+use Rattle.fm_base.specs.Interpretations.{IsInterpretation, Reading}
 use Rattle.fm_base.specs.declared.ids.Lit.{Lit}
 use Rattle.fm_base.specs.declared.ids.Reader.{Reader}
 use Rattle.fm_base.specs.declared.ids.TermId.{TermId}
 use Rattle.fm_bank.specs.Interning.{Held, IsHeld, is_atom}
 use Rattle.fm_bank.specs.Sorted.{is_sorted_clause}
 use Rattle.fm_bank.specs.Terms.{Term, is_term}
+use Rattle.fm_bank.specs.Clauses.{Satisfies}
+use Rattle.fm_bank.specs.Meaning.{literals_true}
 use Rattle.fm_bank.specs.declared.atom.Atom.{Atom}
+use Rattle.fm_bank.specs.declared.clause.Clause.{Clause as FirstOrderClause}
 use Rattle.fm_bank.specs.declared.literal.Literal.{Literal}
-use Rattle.fm_cert.specs.Lines.{AreGoodLines, Made, MakesClause}
+use Rattle.fm_cert.specs.Lines.{AreGoodLines, Made, MakesClause, nothing}
 pub use Rattle.fm_cert.specs.Lines.{Problem as Certified}
 use Rattle.fm_cert.specs.declared.block.Line.{Line}
+use Rattle.fm_guide.specs.declared.event.Event.{Event}
 use Rattle.fm_rounds.specs.InstanceTerms.{fresh_symbols}
 use Rattle.fm_sat.specs.Learning.{Steps}
 use Rattle.fm_steps.specs.Content.{is_term_of_sort}
-use Rattle.fm_steps.specs.Facts.{IsLawful}
+use Rattle.fm_steps.specs.Facts.{AtomsAreKnown, IsLawful}
 use Rattle.fm_steps.specs.Lemmas.{Due, IsDue, are_known}
-use Rattle.fm_steps.specs.Picks.{Known}
+use Rattle.fm_steps.specs.Picks.{Known, Settles}
 use Rattle.fm_steps.specs.Rows.{Offer, Row}
-use Rattle.fm_steps.specs.Runs.{term_id}
+use Rattle.fm_steps.specs.Runs.{IsReached, IsStart, Step, term_id}
 use Rattle.fm_steps.specs.Sizes.{sort}
+use Rattle.fm_steps.specs.Start.{first_terms}
 use Rattle.fm_steps.specs.State.{Budget, Clause, Pick, Problem, State}
 
 -- what a certificate is of, as clauses for which a model is searched; the number of declared functions is of no use to either
@@ -37,6 +43,13 @@ clause_in atoms c = map (literal_in atoms) c
 -- the registered terms and the clause list, as what lines have made
 abbrev pub made_of : State → Made
 made_of s = record { terms = s.held.terms; clauses = map (clause_in s.held.atoms) s.clauses }
+
+-- lines that make them
+abbrev pub AreLinesOf : Certified → State → List Line → Type 0
+AreLinesOf c s lines = AreGoodLines c nothing lines (made_of s)
+
+abbrev pub HasLines : Certified → State → Type 0
+HasLines c s = (lines : List Line) × AreLinesOf c s lines
 
 -- the clauses are well sorted, and the fresh symbols are constants
 abbrev pub is_constant : Problem → ℕ → Bool
@@ -123,3 +136,49 @@ abbrev pub RowsAreWritten : Type 0
 RowsAreWritten =
     (c : Certified) (user : ℕ) (b : Budget) (s : State) (k : Known) (o : Offer) (t : State) → IsSorted (searched c user) → IsLawful (searched c user) s
     → IsWellHeld (searched c user) s → are_written s ≡ true → (r : Row (searched c user) b s k o t) → AreGoodLines c (made_of s) (row_lines (searched c user) b s k o t r) (made_of t)
+
+-- the lines of the start: its terms, the clauses without variables, and that no sort is empty
+abbrev pub ground_lines : ℕ → List FirstOrderClause → List Line
+ground_lines n [] = []
+ground_lines n (k ∷ ks) = (if length k.vars == 0 then Line.Instance n [] ∷ [] else []) ++ ground_lines (n + 1) ks
+
+abbrev pub element_lines : List ℕ → List Line
+element_lines us = map (λ u. Line.OrderZero (sort u)) us
+
+abbrev pub sum_lines : ℕ → List Line
+sum_lines zero = []
+sum_lines (suc m) = Line.Sum m (map (λ u. 0) (range_with_len 0 (suc m))) ∷ []
+
+abbrev pub start_lines : Problem → List Line
+start_lines p = ((lines_from 0 (first_terms p) ++ ground_lines 0 p.clauses) ++ element_lines (range_with_len 0 p.sig.sorts)) ++ sum_lines p.sig.sorts
+
+-- they make what the start has; what is known besides changes nothing
+abbrev pub StartIsWritten : Type 0
+StartIsWritten = (c : Certified) (user : ℕ) (s : State) → IsSorted (searched c user) → IsStart (searched c user) s → AreLinesOf c s (start_lines (searched c user))
+
+abbrev pub SettlingWritesNothing : Type 0
+SettlingWritesNothing = (mid t : State) → AtomsAreKnown mid → Settles mid t → made_of t ≡ made_of mid
+
+-- every state of a run whose numbers can be written has lines
+abbrev pub RunsHaveLines : Type 0
+RunsHaveLines =
+    (c : Certified) (user : ℕ) (b : Budget) (events : List Event) (s : State) → IsSorted (searched c user) → IsReached (searched c user) b events s
+    → are_written s ≡ true → HasLines c s
+
+-- and each clause of its list holds in every interpretation that satisfies the problem's clauses, each term having its value
+-- there
+abbrev pub RunsFollow : Type 0
+RunsFollow =
+    (c : Certified) (user : ℕ) (b : Budget) (events : List Event) (s : State) → IsSorted (searched c user) → IsReached (searched c user) b events s
+    → are_written s ≡ true → (m : Reading) → IsInterpretation c.symbols m → Satisfies m c.clauses
+    → (i : ℕ) (k : Clause) → slice_get s.clauses i ≡ Some k → literals_true c.symbols m s.held.terms (clause_in s.held.atoms k) ≡ true
+
+-- terms, atoms and tests are well held at the start, after each step, and so in every state of a run
+abbrev pub StartsHeld : Type 0
+StartsHeld = (p : Problem) (s : State) → IsSorted p → IsStart p s → IsWellHeld p s
+
+abbrev pub StepsStayHeld : Type 0
+StepsStayHeld = (p : Problem) (b : Budget) (s : State) (e : Event) (t : State) → IsSorted p → IsWellHeld p s → Step p b s e t → IsWellHeld p t
+
+abbrev pub RunsStayHeld : Type 0
+RunsStayHeld = (p : Problem) (b : Budget) (events : List Event) (s : State) → IsSorted p → IsReached p b events s → IsWellHeld p s

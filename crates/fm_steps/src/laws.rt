@@ -1,5 +1,5 @@
 ghost use Rattle.fm_steps.specs.Facts.{AtomsAreKnown, ClausesAreGuarded, HeadsAreWithin, InstancesAreCounted, IsLawful, PicksAreKnown, SizesAreAssumed, SmallerAreRefuted, TrailIsExplained};
-ghost use Rattle.fm_steps.specs.Lines.{LemmasAreLines, RowsAreWritten};
+ghost use Rattle.fm_steps.specs.Lines.{LemmasAreLines, RowsAreWritten, RunsFollow, RunsHaveLines, RunsStayHeld, SettlingWritesNothing, StartIsWritten, StartsHeld, StepsStayHeld};
 ghost use Rattle.fm_steps.specs.Readers.{ReadersCloseLevels, ReadersGoBack, ReadersStay};
 ghost use Rattle.fm_steps.specs.Ready.{DecideIsReady, InstanceIsReady, LearnIsReady, RaiseIsReady, SatIsReady, SplitIsReady, TakeIsReady, TurnIsReady, UnitIsReady, UnsatIsReady};
 ghost use Rattle.fm_steps.specs.Laws.{AnswersEndRuns, EachIsKnown, HasAtStart, HoldsInRuns, IsKeptBySteps, IsLeftByMoves, RunsAreCounted, WrongEventsEndNoRun};
@@ -89,4 +89,26 @@ pub fn lemmas_are_lines()
 /// a lemma, or an instance behind its new terms. It is a law of the definitions and does nothing.
 pub fn rows_are_written()
     ensures { RowsAreWritten }
+{}
+
+/// The lines of the start make its terms and clauses, and the choice of tests adds nothing to them. It is a law of the
+/// definitions and does nothing.
+pub fn start_is_written()
+    ensures lines { StartIsWritten }
+    ensures settled { SettlingWritesNothing }
+{}
+
+/// Terms, atoms and tests are over the problem's signature at the start and stay so. It is a law of the definitions and does
+/// nothing.
+pub fn terms_stay_held()
+    ensures start { StartsHeld }
+    ensures steps { StepsStayHeld }
+    ensures runs { RunsStayHeld }
+{}
+
+/// Every state of a run has lines that make its terms and its clause list, where the numbers in its atoms can be written; so
+/// its clauses follow from the problem's. It is a law of the definitions and does nothing.
+pub fn runs_are_written()
+    ensures lines { RunsHaveLines }
+    ensures follow { RunsFollow }
 {}

@@ -1,0 +1,111 @@
+-- The tests that are chosen have at least one term, and all of the sort.
+use Rattle.std.proofs.Common.{◌≡◌, ℕ, zero, suc, ◌+◌, ◌&&◌, ◌||◌, ◌==◌, min, max, Bool, true, false, cond, List, [], ◌∷◌, length, map, Some, None, inl, inr, refl, sym, subst, ◌∙◌, arith}
+use Rattle.std.specs.Prelude.{Option, slice_get}
+use Rattle.std.specs.List.{All, filter, list_any, range_with_len}
+use Rattle.std.proofs.lemmas.Bool.{and_parts}
+use Rattle.std.proofs.lemmas.List.Elements.{All-append, All-drop, All-set, All-take}
+use Rattle.std.proofs.lemmas.Slice.Eq.{bytes_eq-Decides}
+use Rattle.fm_base.specs.Resolution.{Has}
+use Rattle.fm_base.proofs.Resolution.{mapped_has}
+use Rattle.fm_bank.specs.Interning.{Held}
+use Rattle.fm_bank.specs.Regions.{after_join, after_meeting, after_opening, closed, closed_within, first_large, first_open, first_touching, grown_regions, grown_within, is_in, is_large, joined, must_grow, region_at, regions_at}
+use Rattle.fm_bank.specs.Tests.{Tests}
+use Rattle.fm_rounds.proofs.Members.{in_filter}
+use Rattle.fm_steps.specs.Content.{classes_of, is_oldest, is_term_of_sort}
+use Rattle.fm_steps.specs.Lines.{IsPickOfSort}
+use Rattle.fm_steps.specs.Picks.{ArePicks, IsPickAt, IsTest, is_sublist}
+use Rattle.fm_steps.specs.Sizes.{least_true, sort}
+use Rattle.fm_steps.specs.State.{Pick, State}
+use Rattle.fm_steps.proofs.Due.{in_all}
+use Rattle.fm_steps.proofs.Lists.{all_from, all_has}
+
+module _ (apart : ℕ → ℕ → Bool) (classes : List ℕ) (k : ℕ) where
+  abbrev IsAmong : List ℕ → Type 0
+  IsAmong r = (x : ℕ) → Has r x → Has classes x
+
+  abbrev AreAmong : List (List ℕ) → Type 0
+  AreAmong rs = All IsAmong rs
+
+  both_among : (r s : List ℕ) → IsAmong (joined classes r s)
+  both_among r s x h = (in_filter (λ c. is_in r c || is_in s c) x classes h).0
+
+  join_among : (rs : List (List ℕ)) (i j : ℕ) → AreAmong rs → AreAmong (after_join classes rs i j)
+  join_among rs i j h =
+      let both = joined classes (region_at rs i) (region_at rs j) in
+      let set = All-set IsAmong rs (min i j) both (both_among (region_at rs i) (region_at rs j)) h in
+      All-append IsAmong _ _ (All-take IsAmong (max i j) _ set) (All-drop IsAmong (suc (max i j)) _ set)
+
+  meeting : (onward : List (List ℕ) → List (List ℕ)) → ((rs : List (List ℕ)) → AreAmong rs → AreAmong (onward rs)) → (rs : List (List ℕ)) (i : ℕ) (o : Option ℕ) → AreAmong rs → AreAmong (after_meeting classes onward rs i o)
+  meeting onward go rs i None h = h
+  meeting onward go rs i (Some j) h = go (after_join classes rs i j) (join_among rs i j h)
+
+  opening : (onward : List (List ℕ) → List (List ℕ)) → ((rs : List (List ℕ)) → AreAmong rs → AreAmong (onward rs)) → (rs : List (List ℕ)) (o : Option ℕ) → AreAmong rs → AreAmong (after_opening apart classes onward rs o)
+  opening onward go rs None h = h
+  opening onward go rs (Some i) h = meeting onward go rs i (first_touching apart rs i) h
+
+  closing : (n : ℕ) (rs : List (List ℕ)) → AreAmong rs → AreAmong (closed_within apart classes k n rs)
+  unfolding closed_within
+  closing zero rs h = h
+  closing (suc n) rs h = opening (closed_within apart classes k n) (closing n) rs (first_open apart classes k rs) h
+
+  either : (b : Bool) (rs ss : List (List ℕ)) → AreAmong rs → AreAmong ss → AreAmong (cond b rs ss)
+  either true rs ss h g = h
+  either false rs ss h g = g
+
+  growing : (n : ℕ) (rs : List (List ℕ)) → AreAmong rs → AreAmong (grown_within apart classes k n rs)
+  unfolding grown_within
+  growing zero rs h = h
+  growing (suc n) rs h =
+      let next = after_join classes rs 0 1 in
+      either (must_grow classes k rs) (grown_within apart classes k n (closed apart classes k next)) rs (growing n (closed apart classes k next) (closing (length next) next (join_among rs 0 1 h))) h
+
+  of_one : (c x : ℕ) → Has (c ∷ []) x → c ≡ x
+  of_one c x (inl e) = e
+  of_one c x (inr h) = absurd h
+
+  alone : AreAmong (map (λ c. c ∷ []) classes)
+  alone = all_from IsAmong (map (λ c. c ∷ []) classes) (λ r q. let m = mapped_has (λ (c : ℕ). c ∷ []) classes r q in subst IsAmong m.is (λ x h. subst (Has classes) (of_one m.lit x h) m.has))
+
+  large : (b : Bool) (r s : List ℕ) → IsAmong r → IsAmong s → IsAmong (cond b r s)
+  large true r s h g = h
+  large false r s h g = g
+
+  first_among : (rs : List (List ℕ)) → ((r : List ℕ) → Has rs r → IsAmong r) → IsAmong (first_large k rs)
+  first_among [] h = λ x q. absurd q
+  first_among (r ∷ rs) h = large (is_large k r) r (first_large k rs) (h r (inl refl)) (first_among rs (λ s q. h s (inr q)))
+
+  among : IsAmong (first_large k (grown_regions apart classes k))
+  among =
+      let start = closing (length (map (λ (c : ℕ). c ∷ []) classes)) (map (λ (c : ℕ). c ∷ []) classes) alone in
+      let rs = regions_at apart classes k in
+      let all = growing (length rs) rs start in
+      first_among (grown_regions apart classes k) (λ r q. all_has IsAmong (grown_regions apart classes k) r all q)
+
+-- what is chosen of a list is in it
+chosen : (xs ys : List ℕ) → is_sublist xs ys ≡ true → (x : ℕ) → Has xs x → Has ys x
+chosen xs ys e x h =
+    let same : filter (λ (y : ℕ). list_any (λ z. z == y) xs) ys ≡ xs = (bytes_eq-Decides (filter (λ (y : ℕ). list_any (λ z. z == y) xs) ys) xs).0 e in
+    (in_filter (λ (y : ℕ). list_any (λ z. z == y) xs) x ys (subst (λ (zs : List ℕ). Has zs x) (sym same) h)).0
+
+test_sorts : (held : Held) (t : Tests) (u k : ℕ) (pick : Pick) → IsTest t (classes_of held t (sort u)) k pick → IsPickOfSort held u pick
+test_sorts held t u k pick h =
+    let classes = classes_of held t (sort u) in
+    record {
+      some = let n = h.count in omega (arith, n);
+      sorts = in_all (is_term_of_sort held u) pick.terms (λ x q.
+          let here = among t.apart classes k x (chosen pick.terms (first_large k (grown_regions t.apart classes k)) h.among x q) in
+          (and_parts (is_term_of_sort held u x) (is_oldest t x) (in_filter (λ n. is_term_of_sort held u n && is_oldest t n) x (range_with_len 0 (length held.terms)) here).1).0);
+    }
+
+pick_at : (held : Held) (t : Tests) (u : ℕ) (o : Option ℕ) (p : Option Pick) (pick : Pick) → p ≡ Some pick → IsPickAt t (classes_of held t (sort u)) o p → IsPickOfSort held u pick
+pick_at held t u None p pick e h = absurd (cc (sym h ∙ e))
+pick_at held t u (Some k) None pick e h = absurd (cc e)
+pick_at held t u (Some k) (Some q) pick e h = let same : q ≡ pick = cc e in subst (IsPickOfSort held u) same (test_sorts held t u k q h.1)
+
+picks_from : (s : State) (t : Tests) (v : ℕ) (ps : List (Option Pick)) → ArePicks s t v ps → (i : ℕ) (pick : Pick) → slice_get ps i ≡ Some (Some pick) → IsPickOfSort s.held (v + i) pick
+picks_from s t v [] h i pick e = absurd (cc e)
+picks_from s t v (p ∷ ps) h zero pick e = let z : v + 0 ≡ v = omega arith in subst (λ n. IsPickOfSort s.held n pick) (sym z) (pick_at s.held t v (least_true s v) p pick (cc e) h.0)
+picks_from s t v (p ∷ ps) h (suc i) pick e = let z : v + 1 + i ≡ v + suc i = omega arith in subst (λ n. IsPickOfSort s.held n pick) z (picks_from s t (v + 1) ps h.1 i pick e)
+
+pub picks_sorts : (s : State) (t : Tests) (ps : List (Option Pick)) → ArePicks s t 0 ps → (u : ℕ) (pick : Pick) → slice_get ps u ≡ Some (Some pick) → IsPickOfSort s.held u pick
+picks_sorts s t ps h u pick e = let z : 0 + u ≡ u = omega arith in subst (λ n. IsPickOfSort s.held n pick) z (picks_from s t 0 ps h u pick e)

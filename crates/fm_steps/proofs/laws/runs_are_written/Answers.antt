@@ -1,0 +1,8 @@
+use Rattle.fm_steps.proofs.Runs.{runs_follow, runs_have_lines}
+use Rattle.fm_steps.proofs.laws.runs_are_written.Goals as goal
+
+pub returns-clause-lines : goal.returns-clause-lines
+returns-clause-lines c = runs_have_lines
+
+pub returns-clause-follow : goal.returns-clause-follow
+returns-clause-follow c = runs_follow
