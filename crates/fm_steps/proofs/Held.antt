@@ -1,5 +1,5 @@
 -- Each event whose row is met and which decides an atom over the terms leaves terms and atoms well held.
-use Rattle.std.proofs.Common.{◌≡◌, ℕ, suc, ◌+◌, ◌&&◌, ◌==◌, Bool, true, false, cond, nat_le, nat_lt, List, [], ◌∷◌, ◌++◌, length, map, Some, None, inl, inr, refl, sym, ap, subst, ◌∙◌, arith}
+use Rattle.std.proofs.Common.{◌≡◌, ℕ, ◌+◌, ◌&&◌, ◌==◌, Bool, true, false, cond, nat_le, nat_lt, List, [], ◌∷◌, ◌++◌, length, map, Some, None, inl, inr, refl, sym, ap, subst, ◌∙◌, arith}
 use Rattle.std.specs.Prelude.{Option, slice_get}
 use Rattle.std.specs.List.{flat_map, list_all, range_with_len}
 use Rattle.std.proofs.lemmas.Bool.{and_from, and_parts, eqb-true, false≢true, le-leb, leb-false, lt-ltb}
@@ -35,7 +35,7 @@ use Rattle.fm_steps.proofs.Lists.{Has-append, Has-get}
 use Rattle.fm_steps.proofs.Menus.{at_five}
 use Rattle.fm_steps.proofs.Numbers.{with_all_known}
 use Rattle.fm_steps.proofs.Tested.{picks_sorts}
-use Rattle.fm_steps.proofs.Written.{named_typed, placed_same}
+use Rattle.fm_steps.proofs.Written.{has_place, named_typed, placed_same}
 
 -- an equality of two terms of one sort
 one_sort : (x y : Option Ty) (s : SortId) → is_type x (Ty.Of s) ≡ true → is_type y (Ty.Of s) ≡ true → are_of_one_sort x y ≡ true
@@ -69,11 +69,6 @@ clique_fits held u (Some p) ts h l q = absurd q
 pick_fits : (held : Held) (u : ℕ) (p : Option Pick) → ((pick : Pick) → p ≡ Some pick → IsPickOfSort held u pick) → (l : Literal) → Has (pick_literals p) l → fits held l.atom
 pick_fits held u None h l q = absurd q
 pick_fits held u (Some pick) h l q = clique_fits held u pick.pair pick.terms (λ n r. all_in (is_term_of_sort held u) pick.terms n (h pick refl).sorts r) l q
-
-has_place : {X : Type 0} (xs : List X) (x : X) → Has xs x → (i : ℕ) × (slice_get xs i ≡ Some x)
-has_place [] x h = absurd h
-has_place (y ∷ ys) x (inl e) = (0, ap Some e)
-has_place (y ∷ ys) x (inr h) = let r = has_place ys x h in (suc r.0, r.1)
 
 picks_fit : (held : Held) (ps : List (Option Pick)) → ((u : ℕ) (pick : Pick) → slice_get ps u ≡ Some (Some pick) → IsPickOfSort held u pick) → list_all (λ (l : Literal). is_atom held.sig held.terms l.atom) (flat_map pick_literals ps) ≡ true
 picks_fit held ps h =

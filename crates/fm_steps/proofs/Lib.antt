@@ -24,3 +24,5 @@ pub mod Tested
 pub mod Held
 pub mod Begun
 pub mod Runs
+pub mod Staying
+pub mod Bounded

@@ -285,3 +285,12 @@ module _ (p : Problem) (s : State) (k : Known) where
           | inr r ↦ (let m = (last p s k o r.1).0 in absurd (omega (arith, m, high)))
         ]
       ]
+
+  -- where a decision or more is offered the groups before are empty
+  pub quiet_before : (o : Offer) → 4 < kind o → Has (menu_of p s k) o → (conflicts_here ≡ []) × (second ≡ []) × (first_lemmas s k ≡ []) × (turns_of s ≡ []) × Has rest_five o
+  quiet_before o more h =
+      let a = past 1 1 conflicts_here rest_two o (conflicts 0 s.trail.entries s.clauses) (omega (arith, more)) (Has-take 64 (offers_of p s k) o h) in
+      let b = past 2 2 second rest_three o early_two (omega (arith, more)) a.1 in
+      let c = past 3 3 (first_lemmas s k) rest_four o (firsts s k) (omega (arith, more)) b.1 in
+      let d = past 4 4 (turns_of s) rest_five o (turns s) more c.1 in
+      (a.0, b.0, c.0, d.0, d.1)

@@ -1,5 +1,6 @@
 -- Atoms and their numbers, as atoms become known.
 use Rattle.std.proofs.Common.{◌≡◌, ℕ, zero, suc, ◌<◌, ◌≤◌, Bool, true, false, cond, nat_lt, List, [], ◌∷◌, ◌++◌, length, slice_get, Some, None, inl, inr, refl, sym, ap, subst, ◌∙◌, arith}
+use Rattle.std.specs.Prelude.{Option}
 use Rattle.std.specs.List.{list_all, list_any, position_or_len}
 use Rattle.std.proofs.lemmas.Bool.{and_from, and_parts, cases_Bool, cond-true, false≢true, le-ltb, lt-ltb, ltb-true, or_cases}
 use Rattle.std.proofs.lemmas.List.{length-append, length_push}
@@ -104,11 +105,18 @@ known_among all atoms (l ∷ ls) h = and_from (is_some_number (find_atom all l.a
 pub all_known : (ls : List Literal) (atoms : List Atom) → list_all (λ (l : Literal). is_some_number (find_atom (with_atoms atoms ls) l.atom)) ls ≡ true
 all_known ls atoms = known_among (with_atoms atoms ls) atoms ls (λ k q. any_known (with_atoms atoms ls) k.atom (all_there ls atoms k q))
 
+some_number : (o : Option ℕ) → is_some_number o ≡ true → (n : ℕ) × (o ≡ Some n)
+some_number None h = absurd (false≢true h)
+some_number (Some n) h = (n, refl)
+
+pub find_some : (atoms : List Atom) (a : Atom) → is_some_number (find_atom atoms a) ≡ true → (n : ℕ) × (find_atom atoms a ≡ Some n)
+find_some atoms a h = some_number (find_atom atoms a) h
+
 found_step : (b : Bool) (m n : ℕ) → cond b (Some m) None ≡ Some n → (b ≡ true) × (m ≡ n)
 found_step true m n h = (refl, cc h)
 found_step false m n h = absurd (cc h)
 
-find_kept : (atoms ys : List Atom) (a : Atom) (n : ℕ) → find_atom atoms a ≡ Some n → find_atom (atoms ++ ys) a ≡ Some n
+pub find_kept : (atoms ys : List Atom) (a : Atom) (n : ℕ) → find_atom atoms a ≡ Some n → find_atom (atoms ++ ys) a ≡ Some n
 find_kept atoms ys a n h =
     let f = found_step (nat_lt (atom_number atoms a) (length atoms)) (atom_number atoms a) n h in
     let there = known_any atoms a (ap is_some_number h) in

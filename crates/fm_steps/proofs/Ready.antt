@@ -59,7 +59,7 @@ unsat_at : (es : List Entry) (cs : List Clause) (n : ℕ) → Has (conflicts_fro
 unsat_at es [] n h = absurd h
 unsat_at es (c ∷ cs) n h = unsat_step es c cs n (are_false es c) refl h (unsat_at es cs (n + 1))
 
-drop_true : (a b : Bool) → a ≡ true → (a && b) ≡ false → b ≡ false
+pub drop_true : (a b : Bool) → a ≡ true → (a && b) ≡ false → b ≡ false
 drop_true true b t h = h
 drop_true false b t h = absurd (false≢true t)
 
@@ -96,7 +96,7 @@ quiet_step : (es : List Entry) (n : ℕ) (c : Clause) (cs : List Clause) (b : Bo
 quiet_step es n c cs true f e = absurd (cc e)
 quiet_step es n c cs false f e = (f, e)
 
-quiet_at : (es : List Entry) (n : ℕ) (cs : List Clause) → conflicts_from n es cs ≡ [] → HasNoFalse cs es
+pub quiet_at : (es : List Entry) (n : ℕ) (cs : List Clause) → conflicts_from n es cs ≡ [] → HasNoFalse cs es
 quiet_at es n [] e i c at = absurd (cc at)
 quiet_at es n (d ∷ cs) e zero c at = let same : d ≡ c = cc at in subst (λ (x : Clause). are_false es x ≡ false) same (quiet_step es n d cs (are_false es d) refl e).0
 quiet_at es n (d ∷ cs) e (suc i) c at = quiet_at es (n + 1) cs (quiet_step es n d cs (are_false es d) refl e).1 i c at

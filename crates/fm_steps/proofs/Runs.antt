@@ -33,7 +33,7 @@ learnt_front n lits l level (step ∷ steps) s = front-refl s.held.atoms
 abbrev Grows : State → State → Type 0
 Grows s t = IsFront s.held.atoms t.held.atoms
 
-row_grows : (p : Problem) (b : Budget) (s : State) (k : Known) (o : Offer) (t : State) → Row p b s k o t → Grows s t
+pub row_grows : (p : Problem) (b : Budget) (s : State) (k : Known) (o : Offer) (t : State) → Row p b s k o t → Grows s t
 row_grows p b s k (Offer.Learn n) t r = subst (Grows s) (sym r.after) (learnt_front n r.lits r.lit r.level r.steps s)
 row_grows p b s k (Offer.Unit' n) t r = subst (Grows s) (sym r.after) (front-refl s.held.atoms)
 row_grows p b s k (Offer.Take e) t r = subst (Grows s) (sym r.after) (front-refl s.held.atoms)

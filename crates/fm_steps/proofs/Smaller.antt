@@ -21,7 +21,7 @@ use Rattle.fm_steps.proofs.Lists.{any_more}
 use Rattle.fm_steps.proofs.Numbers.{find_all}
 
 -- false at level 0, by the atoms and the trail alone
-abbrev IsLow : List Atom → List Entry → Atom → Type 0
+abbrev pub IsLow : List Atom → List Entry → Atom → Type 0
 IsLow atoms es a = is_refuted_by es (find_atom atoms a) ≡ true
 
 refuting_level : (n : ℕ) (e : Entry) → is_refuting n e ≡ true → e.level ≡ 0
@@ -43,11 +43,11 @@ any_back n level (e ∷ es) h =
       | inr more ↦ kept_later n e (up_to level es) (nat_le e.level level) (any_back n level es more)
     ]
 
-low_push : (es : List Entry) (e : Entry) (o : Option ℕ) → is_refuted_by es o ≡ true → is_refuted_by (es ++ e ∷ []) o ≡ true
+pub low_push : (es : List Entry) (e : Entry) (o : Option ℕ) → is_refuted_by es o ≡ true → is_refuted_by (es ++ e ∷ []) o ≡ true
 low_push es e None h = h
 low_push es e (Some n) h = any_more (is_refuting n) es (e ∷ []) h
 
-low_back : (es : List Entry) (level : ℕ) (o : Option ℕ) → is_refuted_by es o ≡ true → is_refuted_by (up_to level es) o ≡ true
+pub low_back : (es : List Entry) (level : ℕ) (o : Option ℕ) → is_refuted_by es o ≡ true → is_refuted_by (up_to level es) o ≡ true
 low_back es level None h = h
 low_back es level (Some n) h = any_back n level es h
 
@@ -55,11 +55,11 @@ low_step : (es : List Entry) (o q : Option ℕ) → ((n : ℕ) → o ≡ Some n 
 low_step es None q same h = absurd (false≢true h)
 low_step es (Some n) q same h = subst (λ (x : Option ℕ). is_refuted_by es x ≡ true) (sym (same n refl)) h
 
-low_all : (atoms : List Atom) (es : List Entry) (ls : List Literal) (a : Atom) → IsLow atoms es a → IsLow (with_atoms atoms ls) es a
+pub low_all : (atoms : List Atom) (es : List Entry) (ls : List Literal) (a : Atom) → IsLow atoms es a → IsLow (with_atoms atoms ls) es a
 low_all atoms es ls a h = low_step es (find_atom atoms a) (find_atom (with_atoms atoms ls) a) (λ n e. find_all ls atoms a n e) h
 
 -- what is refuted in s is refuted in t
-abbrev Carries : State → State → Type 0
+abbrev pub Carries : State → State → Type 0
 Carries s t = (a : Atom) → is_refuted s a ≡ true → is_refuted t a ≡ true
 
 smaller_kept : (m : ℕ) (s t : State) → t.bound ≡ s.bound → t.free ≡ s.free → Carries s t → SmallerAreRefuted m s → SmallerAreRefuted m t

@@ -157,3 +157,6 @@ start_assumed p s st i e at size pos =
 
 pub start_counted : (p : Problem) (s : State) → IsStart p s → (s.instances ≡ 0) × (s.decisions ≡ 0)
 start_counted p s st = let h = (begun p s st).rest in (ap (λ (x : Rest). x.instances) h, ap (λ (x : Rest). x.decisions) h)
+
+pub start_trail : (p : Problem) (s : State) → IsStart p s → s.trail.entries ≡ []
+start_trail p s st = ap (λ (t : Trail). t.entries) (ap (λ (x : Rest). x.trail) (begun p s st).rest)

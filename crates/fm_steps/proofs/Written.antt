@@ -65,12 +65,12 @@ get_front [] ys n d lt = absurd (omega (arith, lt))
 get_front (x ∷ xs) ys zero d lt = refl
 get_front (x ∷ xs) ys (suc n) d lt = get_front xs ys n d (omega (arith, lt))
 
-has_place : {X : Type 0} (xs : List X) (x : X) → Has xs x → (i : ℕ) × (slice_get xs i ≡ Some x)
+pub has_place : {X : Type 0} (xs : List X) (x : X) → Has xs x → (i : ℕ) × (slice_get xs i ≡ Some x)
 has_place [] x h = absurd h
 has_place (y ∷ ys) x (inl e) = (0, ap Some e)
 has_place (y ∷ ys) x (inr h) = let r = has_place ys x h in (suc r.0, r.1)
 
-map_same : {X Y : Type 0} (f g : X → Y) (xs : List X) → ((x : X) → Has xs x → f x ≡ g x) → map f xs ≡ map g xs
+pub map_same : {X Y : Type 0} (f g : X → Y) (xs : List X) → ((x : X) → Has xs x → f x ≡ g x) → map f xs ≡ map g xs
 map_same f g [] h = refl
 map_same f g (x ∷ xs) h = λ i. h x (inl refl) i ∷ map_same f g xs (λ y q. h y (inr q)) i
 

@@ -50,3 +50,7 @@ RunsAreCounted = (p : Problem) (b : Budget) (events : List Event) (s : State) �
 -- in each state there are tests that say what the two readers of equalities know
 abbrev pub EachIsKnown : Type 0
 EachIsKnown = (s : State) → (k : Known) × IsKnown s k
+
+-- each move leaves it
+abbrev pub IsKeptByMoves : (Problem → State → Type 0) → Type 0
+IsKeptByMoves Fact = (p : Problem) (b : Budget) (s : State) (k : Known) (o : Offer) (t : State) → Fact p s → Move p b s k o t → Fact p t

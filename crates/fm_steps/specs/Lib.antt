@@ -1,3 +1,4 @@
+pub mod Bounds
 pub mod Content
 pub mod Facts
 pub mod Laws

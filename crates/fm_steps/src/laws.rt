@@ -1,8 +1,9 @@
+ghost use Rattle.fm_steps.specs.Bounds.{BoundIsFirst, BoundIsOpen, DecisionsAreLarge, StartStays, ZeroIsImplied};
 ghost use Rattle.fm_steps.specs.Facts.{AtomsAreKnown, ClausesAreGuarded, HeadsAreWithin, InstancesAreCounted, IsLawful, PicksAreKnown, SizesAreAssumed, SmallerAreRefuted, TrailIsExplained};
 ghost use Rattle.fm_steps.specs.Lines.{LemmasAreLines, RowsAreWritten, RunsFollow, RunsHaveLines, RunsStayHeld, SettlingWritesNothing, StartIsWritten, StartsHeld, StepsStayHeld};
 ghost use Rattle.fm_steps.specs.Readers.{ReadersCloseLevels, ReadersGoBack, ReadersStay};
 ghost use Rattle.fm_steps.specs.Ready.{DecideIsReady, InstanceIsReady, LearnIsReady, RaiseIsReady, SatIsReady, SplitIsReady, TakeIsReady, TurnIsReady, UnitIsReady, UnsatIsReady};
-ghost use Rattle.fm_steps.specs.Laws.{AnswersEndRuns, EachIsKnown, HasAtStart, HoldsInRuns, IsKeptBySteps, IsLeftByMoves, RunsAreCounted, WrongEventsEndNoRun};
+ghost use Rattle.fm_steps.specs.Laws.{AnswersEndRuns, EachIsKnown, HasAtStart, HoldsInRuns, IsKeptByMoves, IsKeptBySteps, IsLeftByMoves, RunsAreCounted, WrongEventsEndNoRun};
 
 /// The start is lawful, no positive size literal stands at level 0, and the equalities of its cliques are known. It is a
 /// law of the definitions and does nothing.
@@ -111,4 +112,22 @@ pub fn terms_stay_held()
 pub fn runs_are_written()
     ensures lines { RunsHaveLines }
     ensures follow { RunsFollow }
+{}
+
+/// The lemmas of the start, that no sort is empty and that the sum isn't below the number of sorts, stay in the clause list.
+/// It is a law of the definitions and does nothing.
+pub fn the_start_stays()
+    ensures start { HasAtStart StartStays }
+    ensures moves { IsKeptByMoves StartStays }
+    ensures runs { HoldsInRuns StartStays }
+{}
+
+/// In every state of a run entries of level 0 are implied; where a decision stands no sort is empty and no bound below the
+/// number of sorts open at level 0; and in the bounded phase the first decision is that of the bound, so the bound has no
+/// value, is false at level 0, or is that decision. It is a law of the definitions and does nothing.
+pub fn runs_decide_the_bound()
+    ensures zero_level { HoldsInRuns (λ p s. ZeroIsImplied s) }
+    ensures large { HoldsInRuns DecisionsAreLarge }
+    ensures first { HoldsInRuns (λ p s. BoundIsFirst s) }
+    ensures bound { HoldsInRuns (λ p s. BoundIsOpen s) }
 {}
