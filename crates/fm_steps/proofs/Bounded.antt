@@ -12,7 +12,6 @@ use Rattle.fm_bank.specs.Interning.{IsFront, atom_number, find_atom, lit_in, wit
 use Rattle.fm_bank.specs.declared.atom.Atom.{Atom}
 use Rattle.fm_bank.specs.declared.literal.Literal.{Literal}
 use Rattle.fm_bank.proofs.Growing.{atoms_fronts}
-use Rattle.fm_bank.proofs.Sorts.{get-front}
 use Rattle.fm_guide.specs.declared.event.Event.{Event}
 use Rattle.fm_guide.specs.declared.event.Word.{Word}
 use Rattle.fm_rounds.proofs.Members.{any_in, in_any, in_range}
@@ -35,7 +34,7 @@ use Rattle.fm_steps.specs.Sizes.{card, is_refuted, is_refuted_by, is_refuting, i
 use Rattle.fm_steps.specs.State.{Budget, Clause, Problem, State, value_by}
 use Rattle.fm_steps.proofs.Lists.{Has-end, Has-get, append_none, only_one}
 use Rattle.fm_steps.proofs.Menus.{quiet_before}
-use Rattle.fm_steps.proofs.Numbers.{all_there, get_place, known_any, known_number, known_one}
+use Rattle.fm_steps.proofs.Numbers.{find_kept, get_place, known_any, known_number, known_one, number_within}
 use Rattle.fm_steps.proofs.Ready.{drop_true, quiet_at}
 use Rattle.fm_steps.proofs.Running.{IsGood, begun_good, step_good}
 use Rattle.fm_steps.proofs.Smaller.{Carries, low_all, low_back, low_push}
@@ -60,7 +59,7 @@ number_step : (b : Bool) (m n : ℕ) → cond b (Some m) None ≡ Some n → m �
 number_step true m n e = cc e
 number_step false m n e = absurd (cc e)
 
-found_at : (atoms : List Atom) (a : Atom) (n : ℕ) → find_atom atoms a ≡ Some n → slice_get atoms n ≡ Some a
+pub found_at : (atoms : List Atom) (a : Atom) (n : ℕ) → find_atom atoms a ≡ Some n → slice_get atoms n ≡ Some a
 found_at atoms a n e =
     let same : atom_number atoms a ≡ n = number_step (nat_lt (atom_number atoms a) (length atoms)) (atom_number atoms a) n e in
     subst (λ k. slice_get atoms k ≡ Some a) same (get_place atoms a (known_any atoms a (ap is_some_number e)))
@@ -82,7 +81,7 @@ true_refuted s a n x z found e =
     let d = denied s.trail.entries (by_number n true) e in
     refutes s a n d.place d.entry found d.at d.atom d.sign (low_entry s d.place d.entry x z d.at)
 
-refuted_false : (s : State) (a : Atom) (n : ℕ) → TrailIsExplained s → find_atom s.held.atoms a ≡ Some n → is_refuted s a ≡ true → is_false s.trail.entries (by_number n true) ≡ true
+pub refuted_false : (s : State) (a : Atom) (n : ℕ) → TrailIsExplained s → find_atom s.held.atoms a ≡ Some n → is_refuted s a ≡ true → is_false s.trail.entries (by_number n true) ≡ true
 refuted_false s a n x found r =
     let es = s.trail.entries in
     let w = any_in (is_refuting n) es (subst (λ (o : Option ℕ). is_refuted_by es o ≡ true) found r) in
@@ -240,10 +239,10 @@ settled_large p mid t h m =
 
 -- the first decision is that of the bound
 abbrev FirstIn : List Atom → List Entry → ℕ → Type 0
-FirstIn atoms es n = (i : ℕ) (e : Entry) → slice_get es i ≡ Some e → e.why ≡ Why.Decision → e.level ≡ 1 → (e.lit.positive ≡ true) × (slice_get atoms e.lit.atom.0 ≡ Some (Atom.Bound n))
+FirstIn atoms es n = (i : ℕ) (e : Entry) → slice_get es i ≡ Some e → e.why ≡ Why.Decision → e.level ≡ 1 → (e.lit.positive ≡ true) × (find_atom atoms (Atom.Bound n) ≡ Some e.lit.atom.0)
 
 first_more : (atoms more : List Atom) (es : List Entry) (n : ℕ) → IsFront atoms more → FirstIn atoms es n → FirstIn more es n
-first_more atoms more es n f h i e at why one = let q = h i e at why one in (q.0, get-front atoms more e.lit.atom.0 (Atom.Bound n) f q.1)
+first_more atoms more es n f h i e at why one = let q = h i e at why one in (q.0, subst (λ (as' : List Atom). find_atom as' (Atom.Bound n) ≡ Some e.lit.atom.0) f.1 (find_kept atoms f.0 (Atom.Bound n) e.lit.atom.0 q.1))
 
 first_back : (atoms : List Atom) (es : List Entry) (n level : ℕ) → AreLevelled 0 es → FirstIn atoms es n → FirstIn atoms (up_to level es) n
 first_back atoms es n level levels h i e at why one = h i e (back_entry es level i e levels at).0 why one
@@ -287,8 +286,8 @@ row_first p b s k (Offer.Decide l) t x d h r =
       | inl old ↦ first_more s.held.atoms now s.trail.entries s.bound (atoms_fronts (l ∷ []) s.held.atoms) (h f) i e old why one
       | inr here ↦ (let level : level_of s.trail.entries + 1 ≡ 1 = ap (λ (y : Entry). y.level) here.1 ∙ one in
           let is : l ≡ lit true (Atom.Bound s.bound) = d.1 f (omega (arith, level)) in
-          let at' : slice_get now (atom_number now l.atom) ≡ Some l.atom = get_place now l.atom (all_there (l ∷ []) s.held.atoms l (inl refl)) in
-          subst (λ (y : Entry). (y.lit.positive ≡ true) × (slice_get now y.lit.atom.0 ≡ Some (Atom.Bound s.bound))) here.1 (ap (λ (m : Literal). m.positive) is, at' ∙ ap (λ (m : Literal). Some m.atom) is))
+          let number : find_atom now l.atom ≡ Some (atom_number now l.atom) = ap (λ (c : Bool). cond c (Some (atom_number now l.atom)) None) (lt-ltb (atom_number now l.atom) (length now) (number_within (l ∷ []) s.held.atoms l (inl refl))) in
+          subst (λ (y : Entry). (y.lit.positive ≡ true) × (find_atom now (Atom.Bound s.bound) ≡ Some y.lit.atom.0)) here.1 (ap (λ (m : Literal). m.positive) is, ap (λ (m : Literal). find_atom now m.atom) (sym is) ∙ number))
     ])
 row_first p b s k (Offer.Split a c) t x d h r = subst IsFirst (sym r.after) (λ f. first_more s.held.atoms _ s.trail.entries s.bound (atoms_fronts (lit true (equality a c) ∷ []) s.held.atoms) (h f))
 row_first p b s k (Offer.Instance i env) t x d h r = subst IsFirst (sym r.after) (λ f. first_more s.held.atoms _ s.trail.entries s.bound (atoms_fronts (instance_literals s.held r.clause env) s.held.atoms) (h f))
@@ -308,7 +307,7 @@ first_bound false false xs ys zs x o e g h = absurd (false≢true g)
 same_decision : (k l : Literal) → Offer.Decide k ≡ Offer.Decide l → l ≡ k
 same_decision k l e = sym (cc e)
 
-turn_none : (f r : Bool) → f ≡ false → cond (not f && r) (Offer.Turn ∷ []) [] ≡ [] → r ≡ false
+pub turn_none : (f r : Bool) → f ≡ false → cond (not f && r) (Offer.Turn ∷ []) [] ≡ [] → r ≡ false
 turn_none true r e h = absurd (true≢false e)
 turn_none false true e h = absurd (cc h)
 turn_none false false e h = refl
@@ -404,7 +403,7 @@ run_bounded : (p : Problem) (b : Budget) (s : State) (es : List Event) (t : Stat
 run_bounded p b s [] t h r = subst (IsBounded p) (sym r) h
 run_bounded p b s (e ∷ es) t h r = run_bounded p b r.0 es t (step_bounded p b s e r.0 h r.1) r.3
 
-begun_bounded : (p : Problem) (s : State) → IsStart p s → IsBounded p s
+pub begun_bounded : (p : Problem) (s : State) → IsStart p s → IsBounded p s
 begun_bounded p s st =
     let none = start_trail p s st in
     record {

@@ -95,7 +95,7 @@ due_guards s k Reader.Sum (Due.CardOrder u j) ls h = subst AreGuards (sym h.is) 
 due_guards s k Reader.Sum (Due.BoundOrder n) ls h = subst AreGuards (sym h.is) (λ l has size. record { guard = lit false (Atom.Bound n); has = inl refl; size = refl; negative = refl })
 due_guards s k r d ls h = absurd h
 
-equality_ground : (a b : ℕ) → is_size (equality a b) ≡ false
+pub equality_ground : (a b : ℕ) → is_size (equality a b) ≡ false
 equality_ground a b = cond_both (nat_le a b) _ _ (λ (x : Atom). is_size x ≡ false) (λ q. refl) (λ q. refl)
 
 atom_ground : (x : Patom) (env : List ℕ) (terms : List Term) → is_size (atom_grown x env terms).1 ≡ false

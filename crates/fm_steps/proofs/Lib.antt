@@ -26,3 +26,4 @@ pub mod Begun
 pub mod Runs
 pub mod Staying
 pub mod Bounded
+pub mod InRow

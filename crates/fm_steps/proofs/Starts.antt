@@ -160,3 +160,28 @@ start_counted p s st = let h = (begun p s st).rest in (ap (λ (x : Rest). x.inst
 
 pub start_trail : (p : Problem) (s : State) → IsStart p s → s.trail.entries ≡ []
 start_trail p s st = ap (λ (t : Trail). t.entries) (ap (λ (x : Rest). x.trail) (begun p s st).rest)
+
+pub start_bound : (p : Problem) (s : State) → IsStart p s → s.bound ≡ p.sig.sorts
+start_bound p s st = ap (λ (x : Rest). x.bound) (begun p s st).rest
+
+sig_by : (b : Bool) (s : State) (ls : List Literal) → (cond b (with_literals ls s) s).held.sig ≡ s.held.sig
+sig_by true s ls = refl
+sig_by false s ls = refl
+
+ground_sig : (cs : List FirstOrderClause) (s : State) → (with_ground_clauses cs s).held.sig ≡ s.held.sig
+ground_sig [] s = refl
+ground_sig (c ∷ cs) s = ground_sig cs _ ∙ sig_by (length c.vars == 0) s (instance_literals s.held c [])
+
+elements_sig : (us : List ℕ) (s : State) → (with_elements us s).held.sig ≡ s.held.sig
+elements_sig [] s = refl
+elements_sig (u ∷ us) s = elements_sig us _
+
+sum_sig : (m : ℕ) (s : State) → (with_first_sum m s).held.sig ≡ s.held.sig
+sum_sig zero s = refl
+sum_sig (suc m) s = refl
+
+pub start_sig : (p : Problem) (s : State) → IsStart p s → s.held.sig ≡ p.sig
+start_sig p s st =
+    let s1 : State = with_ground_clauses p.clauses (empty_state p) in
+    let s2 : State = with_elements (range_with_len 0 p.sig.sorts) s1 in
+    ap (λ (u : State). u.held.sig) st.after ∙ (sum_sig p.sig.sorts s2 ∙ (elements_sig (range_with_len 0 p.sig.sorts) s1 ∙ ground_sig p.clauses (empty_state p)))

@@ -1,15 +1,15 @@
 -- What runs have beside: the lemmas of the start stay, a decision stands on no empty sort and on no smaller bound, and in the
 -- bounded phase the bound is the first decision.
-use Rattle.std.specs.Prelude.{◌≡◌, ◌⊎◌, ℕ, suc, ◌<◌, true, false, List, [], ◌∷◌, ◌++◌, map, slice_get, Some}
+use Rattle.std.specs.Prelude.{◌≡◌, ◌⊎◌, ◌↔◌, ◌≤◌, ◌+◌, ℕ, suc, ◌<◌, true, false, List, [], ◌∷◌, ◌++◌, map, slice_get, Some}
 use Rattle.std.specs.List.{range_with_len}
 use Rattle.fm_base.specs.Resolution.{Has}
-use Rattle.fm_bank.specs.Interning.{lit_in}
+use Rattle.fm_bank.specs.Interning.{find_atom, lit_in}
 use Rattle.fm_bank.specs.declared.atom.Atom.{Atom}
 use Rattle.fm_bank.specs.declared.literal.Literal.{Literal}
 use Rattle.fm_trail.specs.Trail.{level_of}
 use Rattle.fm_trail.specs.declared.entry.Entry.{Entry}
 use Rattle.fm_trail.specs.declared.entry.Why.{Why}
-use Rattle.fm_steps.specs.Lemmas.{are_known}
+use Rattle.fm_steps.specs.Lemmas.{are_known, is_known}
 use Rattle.fm_steps.specs.Sizes.{card, is_refuted, is_unvalued, lit}
 use Rattle.fm_steps.specs.State.{Problem, State}
 
@@ -43,10 +43,10 @@ pub record AreNotSmaller (p : Problem) (s : State) : Type 0 where
 abbrev pub DecisionsAreLarge : Problem → State → Type 0
 DecisionsAreLarge p s = 0 < level_of s.trail.entries → AreNotSmaller p s
 
--- the entry is the first decision, and that of the bound
+-- the entry makes the bound true
 pub record DecidesBound (s : State) (e : Entry) : Type 0 where
   pub positive : e.lit.positive ≡ true
-  pub bound : slice_get s.held.atoms e.lit.atom.0 ≡ Some (Atom.Bound s.bound)
+  pub bound : find_atom s.held.atoms (Atom.Bound s.bound) ≡ Some e.lit.atom.0
 
 -- bounded: the first decision is that of the bound
 abbrev pub BoundIsFirst : State → Type 0
@@ -65,3 +65,15 @@ pub record BoundIsDecided (s : State) : Type 0 where
 
 abbrev pub BoundIsOpen : State → Type 0
 BoundIsOpen s = s.free ≡ false → (is_unvalued s (Atom.Bound s.bound) ≡ true) ⊎ ((is_refuted s (Atom.Bound s.bound) ≡ true) ⊎ BoundIsDecided s)
+
+-- the known atoms that bound the size of a sort are those from 0 up to one, which isn't above the bound
+pub record IsInRow (s : State) (u : ℕ) : Type 0 where
+  pub top : ℕ
+  pub low : top ≤ s.bound
+  pub known : (k : ℕ) → (is_known s (card u k) ≡ true) ↔ (k ≤ top)
+
+-- and those that bound the sum are from one below the number of sorts, or from 0, up to the present bound
+pub record SizesAreInRow (p : Problem) (s : State) : Type 0 where
+  pub cards : (u : ℕ) → u < p.sig.sorts → IsInRow s u
+  pub bounds : (j : ℕ) → (is_known s (Atom.Bound j) ≡ true) ↔ ((p.sig.sorts ≤ j + 1) × (j ≤ s.bound))
+  pub least : p.sig.sorts ≤ s.bound

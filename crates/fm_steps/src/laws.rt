@@ -1,4 +1,4 @@
-ghost use Rattle.fm_steps.specs.Bounds.{BoundIsFirst, BoundIsOpen, DecisionsAreLarge, StartStays, ZeroIsImplied};
+ghost use Rattle.fm_steps.specs.Bounds.{BoundIsFirst, BoundIsOpen, DecisionsAreLarge, SizesAreInRow, StartStays, ZeroIsImplied};
 ghost use Rattle.fm_steps.specs.Facts.{AtomsAreKnown, ClausesAreGuarded, HeadsAreWithin, InstancesAreCounted, IsLawful, PicksAreKnown, SizesAreAssumed, SmallerAreRefuted, TrailIsExplained};
 ghost use Rattle.fm_steps.specs.Lines.{LemmasAreLines, RowsAreWritten, RunsFollow, RunsHaveLines, RunsStayHeld, SettlingWritesNothing, StartIsWritten, StartsHeld, StepsStayHeld};
 ghost use Rattle.fm_steps.specs.Readers.{ReadersCloseLevels, ReadersGoBack, ReadersStay};
@@ -130,4 +130,9 @@ pub fn runs_decide_the_bound()
     ensures large { HoldsInRuns DecisionsAreLarge }
     ensures first { HoldsInRuns (λ p s. BoundIsFirst s) }
     ensures bound { HoldsInRuns (λ p s. BoundIsOpen s) }
+{}
+
+/// The known size atoms of every state of a run stand in a row. It is a law of the definitions and does nothing.
+pub fn sizes_are_in_row()
+    ensures { HoldsInRuns SizesAreInRow }
 {}
