@@ -316,12 +316,12 @@ some_value : (o : Option Bool) → is_none o ≡ false → (v : Bool) × (o ≡ 
 some_value None e = absurd (true≢false e)
 some_value (Some v) e = (v, refl)
 
-valued : (f : ℕ → Option Bool) (o : Option ℕ) → is_none (option_and_then f o) ≡ false → (n : ℕ) × (v : Bool) × (o ≡ Some n) × (f n ≡ Some v)
+pub valued : (f : ℕ → Option Bool) (o : Option ℕ) → is_none (option_and_then f o) ≡ false → (n : ℕ) × (v : Bool) × (o ≡ Some n) × (f n ≡ Some v)
 valued f None e = absurd (true≢false e)
 valued f (Some n) e = let w = some_value (f n) e in (n, w.0, refl, w.1)
 
 -- the entry of an atom with a value
-entry_by : (es : List Entry) (n : ℕ) (v : Bool) → value_by es n ≡ Some v → IsDenied es (by_number n (not v))
+pub entry_by : (es : List Entry) (n : ℕ) (v : Bool) → value_by es n ≡ Some v → IsDenied es (by_number n (not v))
 entry_by es n true e = denied es (by_number n false) (ap (λ (o : Option Bool). is_value o true) e)
 entry_by es n false e = denied es (by_number n true) (ap (λ (o : Option Bool). is_value o false) e)
 

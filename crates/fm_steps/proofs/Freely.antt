@@ -150,7 +150,7 @@ empty_step : (b : Bool) (x : Offer) → cond b (x ∷ []) [] ≡ [] → b ≡ fa
 empty_step true x h = absurd (cc h)
 empty_step false x h = refl
 
-no_open_size : (s : State) (atoms : List Atom) (a : Atom) → flat_map (free_decision s) atoms ≡ [] → Has atoms a → (is_size a && is_unvalued s a) ≡ false
+pub no_open_size : (s : State) (atoms : List Atom) (a : Atom) → flat_map (free_decision s) atoms ≡ [] → Has atoms a → (is_size a && is_unvalued s a) ≡ false
 no_open_size s [] a e h = absurd h
 no_open_size s (b ∷ atoms) a e (inl q) = ap (λ (x : Atom). is_size x && is_unvalued s x) (sym q) ∙ empty_step (is_size b && is_unvalued s b) (Offer.Decide (lit false b)) (append_none (free_decision s b) (flat_map (free_decision s) atoms) e).0
 no_open_size s (b ∷ atoms) a e (inr h) = no_open_size s atoms a (append_none (free_decision s b) (flat_map (free_decision s) atoms) e).1 h

@@ -356,7 +356,7 @@ holds_by : (s : State) (v : Bool) (a : Atom) (u k : ℕ) (b : Bool) → holds s 
 holds_by s v a u k true e h = subst (λ (x : Atom). holds s v x ≡ true) (number_at u k a h) e
 holds_by s v a u k false e h = absurd h
 
-of_numbers : (s : State) (v : Bool) (u k : ℕ) → Has (numbers_with s v u) k → holds s v (card u k) ≡ true
+pub of_numbers : (s : State) (v : Bool) (u k : ℕ) → Has (numbers_with s v u) k → holds s v (card u k) ≡ true
 of_numbers s v u k h =
     let w = in_flat (λ (a : Atom). cond (holds s v a) (number_in u a) []) k s.held.atoms h in
     holds_by s v w.0 u k (holds s v w.0) refl w.2
@@ -422,7 +422,7 @@ sum_fails s v (suc n) ks e b =
     let here : holds s false (card v w.0) ≡ true = of_numbers s false v w.0 (greatest_in (numbers_with s false v) w.0 w.2) in
     subst (λ (js : List ℕ). open_literals s (sum_literals s v js) ≡ []) (sym w.4) (ap (λ (c : Bool). cond (not c) (lit true (card v w.0) ∷ open_literals s (sum_literals s (v + 1) w.1)) (open_literals s (sum_literals s (v + 1) w.1))) here ∙ sum_fails s (v + 1) n w.1 w.3 b)
 
-take_none : (xs : List Offer) → take 1 xs ≡ [] → xs ≡ []
+pub take_none : (xs : List Offer) → take 1 xs ≡ [] → xs ≡ []
 take_none [] e = refl
 take_none (x ∷ xs) e = absurd (cc e)
 
@@ -452,7 +452,7 @@ refuted_holds s a (Some n) e x r =
     let f = refuted_false s a n x e (subst (λ (o : Option ℕ). is_refuted_by s.trail.entries o ≡ true) (sym e) r) in
     subst (λ (o : Option ℕ). is_value (option_and_then (value_by s.trail.entries) o) false ≡ true) (sym e) f
 
-holds_known : (s : State) (a : Atom) (v : Bool) (o : Option ℕ) → find_atom s.held.atoms a ≡ o → is_value (option_and_then (value_by s.trail.entries) o) v ≡ true → is_some_number o ≡ true
+pub holds_known : (s : State) (a : Atom) (v : Bool) (o : Option ℕ) → find_atom s.held.atoms a ≡ o → is_value (option_and_then (value_by s.trail.entries) o) v ≡ true → is_some_number o ≡ true
 holds_known s a v None e h = absurd (false≢true h)
 holds_known s a v (Some n) e h = refl
 

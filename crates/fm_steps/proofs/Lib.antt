@@ -27,3 +27,4 @@ pub mod Runs
 pub mod Staying
 pub mod Bounded
 pub mod InRow
+pub mod Offered

@@ -294,3 +294,11 @@ module _ (p : Problem) (s : State) (k : Known) where
       let c = past 3 3 (first_lemmas s k) rest_four o (firsts s k) (omega (arith, more)) b.1 in
       let d = past 4 4 (turns_of s) rest_five o (turns s) more c.1 in
       (a.0, b.0, c.0, d.0, d.1)
+
+  -- and behind the decisions nothing is left to decide or to split
+  pub decided_all : (o : Offer) → kind o ≡ 7 → Has (menu_of p s k) o → (decisions_of s ≡ []) × (splits_of s ≡ [])
+  decided_all o e h =
+      let a = past 4 4 (turns_of s) rest_five o (turns s) (omega (arith, e)) (after_three o (omega (arith, e)) h) in
+      let b = past 5 6 (decisions_of s) rest_six o (decisions s) (omega (arith, e)) a.1 in
+      let c = past 5 6 (splits_of s) (last_offer p s k ∷ []) o (splits s) (omega (arith, e)) b.1 in
+      (b.0, c.0)

@@ -5,6 +5,7 @@ pub mod Laws
 pub mod Lines
 pub mod Lemmas
 pub mod Menu
+pub mod Offered
 pub mod Picks
 pub mod Readers
 pub mod Ready

@@ -1,6 +1,7 @@
 ghost use Rattle.fm_steps.specs.Bounds.{BoundIsFirst, BoundIsOpen, DecisionsAreLarge, SizesAreInRow, StartStays, ZeroIsImplied};
 ghost use Rattle.fm_steps.specs.Facts.{AtomsAreKnown, ClausesAreGuarded, HeadsAreWithin, InstancesAreCounted, IsLawful, PicksAreKnown, SizesAreAssumed, SmallerAreRefuted, TrailIsExplained};
 ghost use Rattle.fm_steps.specs.Lines.{LemmasAreLines, RowsAreWritten, RunsFollow, RunsHaveLines, RunsStayHeld, SettlingWritesNothing, StartIsWritten, StartsHeld, StepsStayHeld};
+ghost use Rattle.fm_steps.specs.Offered.{FalseLemmasAreNew, RaiseIsMet, UnitLemmasAreNew};
 ghost use Rattle.fm_steps.specs.Readers.{ReadersCloseLevels, ReadersGoBack, ReadersStay};
 ghost use Rattle.fm_steps.specs.Ready.{DecideIsReady, InstanceIsReady, LearnIsReady, RaiseIsReady, SatIsReady, SplitIsReady, TakeIsReady, TurnIsReady, UnitIsReady, UnsatIsReady};
 ghost use Rattle.fm_steps.specs.Laws.{AnswersEndRuns, EachIsKnown, HasAtStart, HoldsInRuns, IsKeptByMoves, IsKeptBySteps, IsLeftByMoves, RunsAreCounted, WrongEventsEndNoRun};
@@ -135,4 +136,12 @@ pub fn runs_decide_the_bound()
 /// The known size atoms of every state of a run stand in a row. It is a law of the definitions and does nothing.
 pub fn sizes_are_in_row()
     ensures { HoldsInRuns SizesAreInRow }
+{}
+
+/// Where Raise is offered in a run its row is met: every clause has a true literal, and nothing is due. And a lemma that is
+/// false or unit isn't in the list, where no clause is. It is a law of the definitions and does nothing.
+pub fn offers_are_met()
+    ensures raise { RaiseIsMet }
+    ensures false_lemma { FalseLemmasAreNew }
+    ensures unit_lemma { UnitLemmasAreNew }
 {}

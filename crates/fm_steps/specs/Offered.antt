@@ -1,0 +1,42 @@
+-- What is offered in a run is met: Raise; and a lemma that is false or unit isn't in the list.
+use Rattle.std.specs.Prelude.{◌≡◌, ℕ, ◌+◌, ◌-◌, true, false, List, length, slice_get, Some}
+use Rattle.fm_base.specs.Resolution.{AreDistinct, Has}
+use Rattle.fm_bank.specs.declared.atom.Atom.{Atom}
+use Rattle.fm_bank.specs.declared.literal.Literal.{Literal}
+use Rattle.fm_guide.specs.declared.event.Event.{Event}
+use Rattle.fm_sat.specs.Store.{HasNoFalse, HasNoUnit}
+use Rattle.fm_steps.specs.Facts.{AtomsAreKnown}
+use Rattle.fm_steps.specs.Lemmas.{IsInClauses, IsUnitLemma, is_false_lemma}
+use Rattle.fm_steps.specs.Lines.{IsSorted}
+use Rattle.fm_steps.specs.Menu.{menu_of}
+use Rattle.fm_steps.specs.Picks.{Known}
+use Rattle.fm_steps.specs.Rows.{Offer, RaiseRow}
+use Rattle.fm_steps.specs.Runs.{IsReached}
+use Rattle.fm_steps.specs.Sizes.{card, holds}
+use Rattle.fm_steps.specs.State.{Budget, Clause, Pick, Problem, State, back_to, know}
+
+-- the test of a sort is of a true bound
+abbrev pub PicksHold : State → Type 0
+PicksHold s = (u : ℕ) (pick : Pick) → slice_get s.picks u ≡ Some (Some pick) → holds s true (card u (length pick.terms - 1)) ≡ true
+
+-- the state behind Raise, whose row is met where it is offered
+abbrev pub raised : State → State
+raised s = know (Atom.Bound (s.bound + 1)) (record (back_to 0 s) { bound = s.bound + 1; free = false })
+
+abbrev pub RaiseIsMet : Type 0
+RaiseIsMet =
+    (p : Problem) (b : Budget) (events : List Event) (s : State) (k : Known) → IsSorted p → IsReached p b events s
+    → Has (menu_of p s k) Offer.Raise → RaiseRow s k (raised s)
+
+-- where no clause is false a false lemma isn't in the list
+abbrev pub FalseLemmasAreNew : Type 0
+FalseLemmasAreNew = (s : State) (ls : List Literal) → HasNoFalse s.clauses s.trail.entries → is_false_lemma s ls ≡ true → IsInClauses s ls → ⊥
+
+-- and where no clause is unit a unit lemma isn't, if no clause has a literal twice
+abbrev pub AreClausesDistinct : State → Type 0
+AreClausesDistinct s = (i : ℕ) (c : Clause) → slice_get s.clauses i ≡ Some c → AreDistinct c
+
+abbrev pub UnitLemmasAreNew : Type 0
+UnitLemmasAreNew =
+    (s : State) (ls : List Literal) (l : Literal) → AtomsAreKnown s → AreClausesDistinct s → HasNoUnit s.clauses s.trail.entries
+    → IsUnitLemma s ls l → IsInClauses s ls → ⊥
