@@ -62,7 +62,7 @@ atom_from (l ∷ ls) atoms x h =
       | inr q ↦ inr (q.0, inr q.1, q.2)
     ]
 
-has_known : (atoms : List Atom) (a : Atom) → Has atoms a → Knows atoms a
+pub has_known : (atoms : List Atom) (a : Atom) → Has atoms a → Knows atoms a
 has_known atoms a h = any_known atoms a (in_any (is_same_atom a) atoms a h (is_same_atom-refl a))
 
 knows_has : (atoms : List Atom) (a : Atom) → Knows atoms a → Has atoms a
@@ -369,7 +369,7 @@ greatest_step n (Some k) m e =
       | inr ge ↦ inr (ap Some (omega (arith, ge, e)))
     ]
 
-greatest_in : (ns : List ℕ) (m : ℕ) → greatest ns ≡ Some m → Has ns m
+pub greatest_in : (ns : List ℕ) (m : ℕ) → greatest ns ≡ Some m → Has ns m
 greatest_in [] m e = absurd (cc e)
 greatest_in (n ∷ ns) m e =
     elim (greatest_step n (greatest ns) m (cc e)) [
@@ -398,7 +398,7 @@ bounds_there s v (suc n) h =
     let r = bounds_there s (v + 1) n (λ u low high. h u (omega (arith, low)) (omega (arith, high))) in
     (g.0 ∷ r.0, (λ i. with_bound (g.1 i) (r.1 i)))
 
-with_parts : (o : Option ℕ) (q : Option (List ℕ)) (ks : List ℕ) → with_bound o q ≡ Some ks → (k : ℕ) × (js : List ℕ) × (o ≡ Some k) × (q ≡ Some js) × (ks ≡ k ∷ js)
+pub with_parts : (o : Option ℕ) (q : Option (List ℕ)) (ks : List ℕ) → with_bound o q ≡ Some ks → (k : ℕ) × (js : List ℕ) × (o ≡ Some k) × (q ≡ Some js) × (ks ≡ k ∷ js)
 with_parts None q ks e = absurd (cc e)
 with_parts (Some k) None ks e = absurd (cc e)
 with_parts (Some k) (Some js) ks e = (k, js, refl, refl, sym (cc e))

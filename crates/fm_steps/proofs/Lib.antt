@@ -28,3 +28,4 @@ pub mod Staying
 pub mod Bounded
 pub mod InRow
 pub mod Offered
+pub mod Shown

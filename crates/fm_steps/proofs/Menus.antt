@@ -302,3 +302,6 @@ module _ (p : Problem) (s : State) (k : Known) where
       let b = past 5 6 (decisions_of s) rest_six o (decisions s) (omega (arith, e)) a.1 in
       let c = past 5 6 (splits_of s) (last_offer p s k ∷ []) o (splits s) (omega (arith, e)) b.1 in
       (b.0, c.0)
+
+  pub at_three : (o : Offer) → kind o ≡ 3 → Has (menu_of p s k) o → Has (first_lemmas s k) o
+  at_three o e h = in_group 4 7 (first_lemmas s k) rest_four o late_four (omega (arith, e)) (after_two o (omega (arith, e)) h)

@@ -175,7 +175,7 @@ there_at (x ∷ xs) (suc n) lt = there_at xs n (omega (arith, lt))
 has_any : (atoms : List Atom) (a : Atom) → Has atoms a → list_any (is_same_atom a) atoms ≡ true
 has_any atoms a h = in_any (is_same_atom a) atoms a h (is_same_atom-refl a)
 
-found_number : (atoms : List Atom) (a : Atom) → Has atoms a → find_atom atoms a ≡ Some (atom_number atoms a)
+pub found_number : (atoms : List Atom) (a : Atom) → Has atoms a → find_atom atoms a ≡ Some (atom_number atoms a)
 found_number atoms a h = ap (λ (b : Bool). cond b (Some (atom_number atoms a)) None) (lt-ltb (atom_number atoms a) (length atoms) (known_number atoms a (any_known atoms a (has_any atoms a h))))
 
 -- every clause has a true literal

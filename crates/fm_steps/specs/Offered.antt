@@ -1,15 +1,16 @@
 -- What is offered in a run is met: Raise; and a lemma that is false or unit isn't in the list.
 use Rattle.std.specs.Prelude.{◌≡◌, ℕ, ◌+◌, ◌-◌, true, false, List, length, slice_get, Some}
 use Rattle.fm_base.specs.Resolution.{AreDistinct, Has}
+use Rattle.fm_base.specs.declared.ids.Reader.{Reader}
 use Rattle.fm_bank.specs.declared.atom.Atom.{Atom}
 use Rattle.fm_bank.specs.declared.literal.Literal.{Literal}
 use Rattle.fm_guide.specs.declared.event.Event.{Event}
 use Rattle.fm_sat.specs.Store.{HasNoFalse, HasNoUnit}
 use Rattle.fm_steps.specs.Facts.{AtomsAreKnown}
-use Rattle.fm_steps.specs.Lemmas.{IsInClauses, IsUnitLemma, is_false_lemma}
+use Rattle.fm_steps.specs.Lemmas.{Due, IsDue, IsInClauses, IsUnitLemma, are_known, is_false_lemma}
 use Rattle.fm_steps.specs.Lines.{IsSorted}
 use Rattle.fm_steps.specs.Menu.{menu_of}
-use Rattle.fm_steps.specs.Picks.{Known}
+use Rattle.fm_steps.specs.Picks.{IsKnown, Known}
 use Rattle.fm_steps.specs.Rows.{Offer, RaiseRow}
 use Rattle.fm_steps.specs.Runs.{IsReached}
 use Rattle.fm_steps.specs.Sizes.{card, holds}
@@ -40,3 +41,20 @@ abbrev pub UnitLemmasAreNew : Type 0
 UnitLemmasAreNew =
     (s : State) (ls : List Literal) (l : Literal) → AtomsAreKnown s → AreClausesDistinct s → HasNoUnit s.clauses s.trail.entries
     → IsUnitLemma s ls l → IsInClauses s ls → ⊥
+
+-- In a run a lemma that is offered is due: there is one, and each that is due has known atoms and is false, or unit for Imply.
+pub record IsOfferedLemma (s : State) (k : Known) (r : Reader) (d : Due) (Asks : List Literal → Type 0) : Type 0 where
+  pub lits : List Literal
+  pub due : IsDue s k r d lits
+  pub known : (ls : List Literal) → IsDue s k r d ls → are_known s ls ≡ true
+  pub asks : (ls : List Literal) → IsDue s k r d ls → Asks ls
+
+abbrev pub LemmaIsDue : Type 0
+LemmaIsDue =
+    (p : Problem) (b : Budget) (events : List Event) (s : State) (k : Known) (r : Reader) (d : Due) → IsSorted p → IsReached p b events s
+    → IsKnown s k → Has (menu_of p s k) (Offer.Lemma r d) → IsOfferedLemma s k r d (λ ls. is_false_lemma s ls ≡ true)
+
+abbrev pub ImplyIsDue : Type 0
+ImplyIsDue =
+    (p : Problem) (b : Budget) (events : List Event) (s : State) (k : Known) (r : Reader) (d : Due) → IsSorted p → IsReached p b events s
+    → IsKnown s k → Has (menu_of p s k) (Offer.Imply r d) → IsOfferedLemma s k r d (λ ls. (l : Literal) × IsUnitLemma s ls l)

@@ -1,7 +1,7 @@
 ghost use Rattle.fm_steps.specs.Bounds.{BoundIsFirst, BoundIsOpen, DecisionsAreLarge, SizesAreInRow, StartStays, ZeroIsImplied};
 ghost use Rattle.fm_steps.specs.Facts.{AtomsAreKnown, ClausesAreGuarded, HeadsAreWithin, InstancesAreCounted, IsLawful, PicksAreKnown, SizesAreAssumed, SmallerAreRefuted, TrailIsExplained};
 ghost use Rattle.fm_steps.specs.Lines.{LemmasAreLines, RowsAreWritten, RunsFollow, RunsHaveLines, RunsStayHeld, SettlingWritesNothing, StartIsWritten, StartsHeld, StepsStayHeld};
-ghost use Rattle.fm_steps.specs.Offered.{FalseLemmasAreNew, RaiseIsMet, UnitLemmasAreNew};
+ghost use Rattle.fm_steps.specs.Offered.{FalseLemmasAreNew, ImplyIsDue, LemmaIsDue, RaiseIsMet, UnitLemmasAreNew};
 ghost use Rattle.fm_steps.specs.Readers.{ReadersCloseLevels, ReadersGoBack, ReadersStay};
 ghost use Rattle.fm_steps.specs.Ready.{DecideIsReady, InstanceIsReady, LearnIsReady, RaiseIsReady, SatIsReady, SplitIsReady, TakeIsReady, TurnIsReady, UnitIsReady, UnsatIsReady};
 ghost use Rattle.fm_steps.specs.Laws.{AnswersEndRuns, EachIsKnown, HasAtStart, HoldsInRuns, IsKeptByMoves, IsKeptBySteps, IsLeftByMoves, RunsAreCounted, WrongEventsEndNoRun};
@@ -144,4 +144,11 @@ pub fn offers_are_met()
     ensures raise { RaiseIsMet }
     ensures false_lemma { FalseLemmasAreNew }
     ensures unit_lemma { UnitLemmasAreNew }
+{}
+
+/// A lemma that is offered in a run is due: there is one, its atoms are known, and it is false, or unit for Imply. It is a law
+/// of the definitions and does nothing.
+pub fn lemmas_are_due()
+    ensures lemma { LemmaIsDue }
+    ensures imply { ImplyIsDue }
 {}
