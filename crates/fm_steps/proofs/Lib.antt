@@ -29,3 +29,4 @@ pub mod Bounded
 pub mod InRow
 pub mod Offered
 pub mod Shown
+pub mod Numbered

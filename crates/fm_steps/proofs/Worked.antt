@@ -1,5 +1,5 @@
 -- The machine at worked problems: the clauses with which it starts, its first menus, and a first step.
-use Rattle.std.proofs.Common.{◌≡◌, ◌≢◌, ℕ, zero, suc, ◌-◌, ◌==◌, not, Bool, true, false, cond, List, [], ◌∷◌, length, Some, None, inl, inr, refl, sym, subst, ap, ◌∙◌, arith}
+use Rattle.std.proofs.Common.{◌≡◌, ◌≢◌, ℕ, zero, suc, ◌-◌, ◌==◌, not, Bool, true, false, cond, List, [], ◌∷◌, ◌++◌, length, Some, None, inl, inr, refl, sym, subst, ap, ◌∙◌, arith}
 use Rattle.std.specs.Prelude.{Option, drop}
 use Rattle.std.specs.List.{All, list_any, range_with_len}
 use Rattle.std.proofs.lemmas.Bool.{and_parts, eq-eqb, eqb-true, false≢true}
@@ -29,11 +29,13 @@ use Rattle.fm_rounds.specs.InstanceTerms.{clauses_ground_grown, fresh_symbols, i
 use Rattle.fm_sat.specs.Store.{HasNoFalse}
 use Rattle.fm_trail.specs.Trail.{are_false, heads_at}
 use Rattle.fm_steps.specs.Lemmas.{Due, sum_literals}
+use Rattle.fm_cert.specs.declared.block.Line.{Line}
+use Rattle.fm_steps.specs.Lines.{due_line, element_lines, ground_lines, lines_from, made_of, start_lines, sum_lines}
 use Rattle.fm_steps.specs.Menu.{menu_of}
 use Rattle.fm_steps.specs.Picks.{Known, Settles, clique_lemma}
 use Rattle.fm_steps.specs.Rows.{Offer, instance_literals}
-use Rattle.fm_steps.specs.Runs.{IsStart, Run, Step, carried, event_of}
-use Rattle.fm_steps.specs.Sizes.{card, lit}
+use Rattle.fm_steps.specs.Runs.{IsStart, Run, Step, carried, event_of, term_id}
+use Rattle.fm_steps.specs.Sizes.{card, lit, sort}
 use Rattle.fm_steps.specs.Start.{constants_grown, empty_state, first_state, first_terms, with_elements, with_first_sum, with_ground_clauses}
 use Rattle.fm_steps.specs.State.{Budget, Problem, State, back_to, know, put, put_decision, with_literals}
 use Rattle.fm_steps.proofs.Running.{offered_only}
@@ -308,3 +310,22 @@ raise_then = refl
 -- the clauses learnt and added so far
 clauses_then : drop 5 set_free.clauses ≡ (minus 6 ∷ (plus 0 ∷ [])) ∷ ((plus 6 ∷ (minus 5 ∷ [])) ∷ [])
 clauses_then = refl
+
+-- The lines of the start, those of the two lemmas, and the clauses that they make.
+abbrev term_of : ℕ → Line
+term_of f = Line.Term (record { 0 = f }) []
+
+abbrev instance_of : ℕ → Line
+instance_of n = Line.Instance n []
+
+start_written : start_lines three ≡ term_of 0 ∷ (term_of 1 ∷ (term_of 2 ∷ (instance_of 0 ∷ (instance_of 1 ∷ (instance_of 2 ∷ (Line.OrderZero (sort 0) ∷ (Line.Sum 0 (0 ∷ []) ∷ [])))))))
+start_written = ap (λ (ts : List Term). ((lines_from 0 ts ++ ground_lines 0 three.clauses) ++ element_lines (range_with_len 0 1)) ++ sum_lines 1) start_terms
+
+clique_written : due_line at_one apart_classes Reader.Regions (Due.Clique 0) (clique_lemma 0 (0 ∷ (1 ∷ []))) (record { pick = record { terms = 0 ∷ (1 ∷ []); pair = None }; there = refl; clique = refl; is = refl }) ≡ Line.Cardinality (sort 0) 1 (term_id 0 ∷ (term_id 1 ∷ []))
+clique_written = refl
+
+sum_written : due_line at_bound_again apart_classes Reader.Sum Due.SumBound (sum_literals at_bound_again 0 (1 ∷ [])) (record { ks = 1 ∷ []; bounds = refl; due = refl; is = refl }) ≡ Line.Sum 1 (1 ∷ [])
+sum_written = refl
+
+made_then : (made_of set_free).clauses ≡ (lit false (equality 0 1) ∷ []) ∷ ((lit false (equality 0 2) ∷ []) ∷ ((lit false (equality 1 2) ∷ []) ∷ ((lit false (card 0 0) ∷ []) ∷ ((lit true (card 0 0) ∷ (lit false (Atom.Bound 0) ∷ [])) ∷ ((lit false (card 0 1) ∷ (lit true (equality 0 1) ∷ [])) ∷ ((lit true (card 0 1) ∷ (lit false (Atom.Bound 1) ∷ [])) ∷ []))))))
+made_then = refl

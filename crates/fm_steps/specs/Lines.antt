@@ -182,3 +182,8 @@ StepsStayHeld = (p : Problem) (b : Budget) (s : State) (e : Event) (t : State) �
 
 abbrev pub RunsStayHeld : Type 0
 RunsStayHeld = (p : Problem) (b : Budget) (events : List Event) (s : State) → IsSorted p → IsReached p b events s → IsWellHeld p s
+
+-- where the bound can be written, so can all numbers in size atoms
+abbrev pub BoundsAreWritten : Type 0
+BoundsAreWritten =
+    (p : Problem) (b : Budget) (events : List Event) (s : State) → IsSorted p → IsReached p b events s → s.bound < 2 ^ 64 → are_written s ≡ true

@@ -4,14 +4,20 @@ use Rattle.fm_base.specs.Resolution.{AreDistinct, Has}
 use Rattle.fm_base.specs.declared.ids.Reader.{Reader}
 use Rattle.fm_bank.specs.declared.atom.Atom.{Atom}
 use Rattle.fm_bank.specs.declared.literal.Literal.{Literal}
+use Rattle.fm_bank.specs.Clauses.{lits_true}
+use Rattle.fm_bank.specs.declared.clause.Clause.{Clause as FirstOrderClause}
+use Rattle.fm_base.specs.Models.{IsElements}
+use Rattle.fm_rounds.specs.Failing.{named_of}
+use Rattle.fm_rounds.specs.Rounds.{candidate_reading, representatives}
 use Rattle.fm_guide.specs.declared.event.Event.{Event}
+use Rattle.fm_guide.specs.declared.event.Word.{Word}
 use Rattle.fm_sat.specs.Store.{HasNoFalse, HasNoUnit}
 use Rattle.fm_steps.specs.Facts.{AtomsAreKnown}
 use Rattle.fm_steps.specs.Lemmas.{Due, IsDue, IsInClauses, IsUnitLemma, are_known, is_false_lemma}
 use Rattle.fm_steps.specs.Lines.{IsSorted}
 use Rattle.fm_steps.specs.Menu.{menu_of}
 use Rattle.fm_steps.specs.Picks.{IsKnown, Known}
-use Rattle.fm_steps.specs.Rows.{Offer, RaiseRow}
+use Rattle.fm_steps.specs.Rows.{AnswerRow, Offer, RaiseRow, content_at}
 use Rattle.fm_steps.specs.Runs.{IsReached}
 use Rattle.fm_steps.specs.Sizes.{card, holds}
 use Rattle.fm_steps.specs.State.{Budget, Clause, Pick, Problem, State, back_to, know}
@@ -58,3 +64,19 @@ abbrev pub ImplyIsDue : Type 0
 ImplyIsDue =
     (p : Problem) (b : Budget) (events : List Event) (s : State) (k : Known) (r : Reader) (d : Due) → IsSorted p → IsReached p b events s
     → IsKnown s k → Has (menu_of p s k) (Offer.Imply r d) → IsOfferedLemma s k r d (λ ls. (l : Literal) × IsUnitLemma s ls l)
+
+-- Answer Sat is met where it is offered, and an instance that is offered fails in the candidate.
+abbrev pub SatIsMet : Type 0
+SatIsMet = (p : Problem) (b : Budget) (s : State) (k : Known) → Has (menu_of p s k) (Offer.Answer Word.Sat) → AnswerRow p b s k Word.Sat
+
+pub record FailsThere (p : Problem) (s : State) (k : Known) (i : ℕ) (subst : List ℕ) : Type 0 where
+  pub bounded : s.free ≡ false
+  pub clause : FirstOrderClause
+  pub there : slice_get p.clauses i ≡ Some clause
+  pub elements : List ℕ
+  pub within : IsElements (candidate_reading (content_at p s k)) clause.vars elements
+  pub named : named_of (representatives (content_at p s k)) clause.vars elements ≡ subst
+  pub false_there : lits_true (candidate_reading (content_at p s k)) elements clause.lits ≡ false
+
+abbrev pub InstanceFails : Type 0
+InstanceFails = (p : Problem) (s : State) (k : Known) (i : ℕ) (subst : List ℕ) → Has (menu_of p s k) (Offer.Instance i subst) → FailsThere p s k i subst

@@ -1,7 +1,7 @@
 ghost use Rattle.fm_steps.specs.Bounds.{BoundIsFirst, BoundIsOpen, DecisionsAreLarge, SizesAreInRow, StartStays, ZeroIsImplied};
 ghost use Rattle.fm_steps.specs.Facts.{AtomsAreKnown, ClausesAreGuarded, HeadsAreWithin, InstancesAreCounted, IsLawful, PicksAreKnown, SizesAreAssumed, SmallerAreRefuted, TrailIsExplained};
-ghost use Rattle.fm_steps.specs.Lines.{LemmasAreLines, RowsAreWritten, RunsFollow, RunsHaveLines, RunsStayHeld, SettlingWritesNothing, StartIsWritten, StartsHeld, StepsStayHeld};
-ghost use Rattle.fm_steps.specs.Offered.{FalseLemmasAreNew, ImplyIsDue, LemmaIsDue, RaiseIsMet, UnitLemmasAreNew};
+ghost use Rattle.fm_steps.specs.Lines.{BoundsAreWritten, LemmasAreLines, RowsAreWritten, RunsFollow, RunsHaveLines, RunsStayHeld, SettlingWritesNothing, StartIsWritten, StartsHeld, StepsStayHeld};
+ghost use Rattle.fm_steps.specs.Offered.{FalseLemmasAreNew, ImplyIsDue, InstanceFails, LemmaIsDue, RaiseIsMet, SatIsMet, UnitLemmasAreNew};
 ghost use Rattle.fm_steps.specs.Readers.{ReadersCloseLevels, ReadersGoBack, ReadersStay};
 ghost use Rattle.fm_steps.specs.Ready.{DecideIsReady, InstanceIsReady, LearnIsReady, RaiseIsReady, SatIsReady, SplitIsReady, TakeIsReady, TurnIsReady, UnitIsReady, UnsatIsReady};
 ghost use Rattle.fm_steps.specs.Laws.{AnswersEndRuns, EachIsKnown, HasAtStart, HoldsInRuns, IsKeptByMoves, IsKeptBySteps, IsLeftByMoves, RunsAreCounted, WrongEventsEndNoRun};
@@ -113,6 +113,7 @@ pub fn terms_stay_held()
 pub fn runs_are_written()
     ensures lines { RunsHaveLines }
     ensures follow { RunsFollow }
+    ensures numbers { BoundsAreWritten }
 {}
 
 /// The lemmas of the start, that no sort is empty and that the sum isn't below the number of sorts, stay in the clause list.
@@ -138,12 +139,15 @@ pub fn sizes_are_in_row()
     ensures { HoldsInRuns SizesAreInRow }
 {}
 
-/// Where Raise is offered in a run its row is met: every clause has a true literal, and nothing is due. And a lemma that is
-/// false or unit isn't in the list, where no clause is. It is a law of the definitions and does nothing.
+/// Where Raise is offered in a run its row is met: every clause has a true literal, and nothing is due. A lemma that is false
+/// or unit isn't in the list, where no clause is. Answer Sat is met where it is offered, and an instance that is offered fails
+/// in the candidate. It is a law of the definitions and does nothing.
 pub fn offers_are_met()
     ensures raise { RaiseIsMet }
     ensures false_lemma { FalseLemmasAreNew }
     ensures unit_lemma { UnitLemmasAreNew }
+    ensures sat { SatIsMet }
+    ensures instance { InstanceFails }
 {}
 
 /// A lemma that is offered in a run is due: there is one, its atoms are known, and it is false, or unit for Imply. It is a law
