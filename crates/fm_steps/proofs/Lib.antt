@@ -30,3 +30,4 @@ pub mod InRow
 pub mod Offered
 pub mod Shown
 pub mod Numbered
+pub mod Sounding

@@ -12,5 +12,6 @@ pub mod Ready
 pub mod Rows
 pub mod Runs
 pub mod Sizes
+pub mod Soundness
 pub mod Start
 pub mod State

@@ -4,6 +4,7 @@ ghost use Rattle.fm_steps.specs.Lines.{BoundsAreWritten, LemmasAreLines, RowsAre
 ghost use Rattle.fm_steps.specs.Offered.{FalseLemmasAreNew, ImplyIsDue, InstanceFails, LemmaIsDue, RaiseIsMet, SatIsMet, UnitLemmasAreNew};
 ghost use Rattle.fm_steps.specs.Readers.{ReadersCloseLevels, ReadersGoBack, ReadersStay};
 ghost use Rattle.fm_steps.specs.Ready.{DecideIsReady, InstanceIsReady, LearnIsReady, RaiseIsReady, SatIsReady, SplitIsReady, TakeIsReady, TurnIsReady, UnitIsReady, UnsatIsReady};
+ghost use Rattle.fm_steps.specs.Soundness.{HoldsInModels, NoneIsRefuted, SumIsReached, ZeroIsTrue};
 ghost use Rattle.fm_steps.specs.Laws.{AnswersEndRuns, EachIsKnown, HasAtStart, HoldsInRuns, IsKeptByMoves, IsKeptBySteps, IsLeftByMoves, RunsAreCounted, WrongEventsEndNoRun};
 
 /// The start is lawful, no positive size literal stands at level 0, and the equalities of its cliques are known. It is a
@@ -155,4 +156,12 @@ pub fn offers_are_met()
 pub fn lemmas_are_due()
     ensures lemma { LemmaIsDue }
     ensures imply { ImplyIsDue }
+{}
+
+/// What a run has shown of every interpretation that satisfies its problem's clauses: literals of level 0 are true in it, its
+/// sum isn't below the bound, and no clause is false at level 0. It is a law of the definitions and does nothing.
+pub fn runs_are_sound()
+    ensures zero_level { HoldsInModels ZeroIsTrue }
+    ensures sum { HoldsInModels SumIsReached }
+    ensures refuted { HoldsInModels NoneIsRefuted }
 {}
