@@ -31,3 +31,4 @@ pub mod Offered
 pub mod Shown
 pub mod Numbered
 pub mod Sounding
+pub mod Typed

@@ -148,7 +148,7 @@ module _ (s : State) (k : Known) (is : IsKnown s k) where
       subst (λ (ls : List Literal). has_clash ls t ≡ true) (sym same) (value_by_read a v t e (subst (λ (ls : List Literal). AreTestsBy s.held ls t) same h))
 
 -- what was read is known, and its opposites fail
-entry_literal : (positive : Bool) (o : Option Atom) (l : Literal) → Has (literal_at positive o) l → (o ≡ Some l.atom) × (positive ≡ l.positive)
+pub entry_literal : (positive : Bool) (o : Option Atom) (l : Literal) → Has (literal_at positive o) l → (o ≡ Some l.atom) × (positive ≡ l.positive)
 entry_literal positive None l h = absurd h
 entry_literal positive (Some a) l h = let e = only_one (record { positive = positive; atom = a }) l h in (ap (λ (x : Literal). Some x.atom) e, ap (λ (x : Literal). x.positive) e)
 

@@ -1,5 +1,6 @@
 ghost use Rattle.fm_steps.specs.Bounds.{BoundIsFirst, BoundIsOpen, DecisionsAreLarge, SizesAreInRow, StartStays, ZeroIsImplied};
 ghost use Rattle.fm_steps.specs.Facts.{AtomsAreKnown, ClausesAreGuarded, HeadsAreWithin, InstancesAreCounted, IsLawful, PicksAreKnown, SizesAreAssumed, SmallerAreRefuted, TrailIsExplained};
+ghost use Rattle.fm_steps.specs.Grounded.{TestsAreTyped};
 ghost use Rattle.fm_steps.specs.Lines.{BoundsAreWritten, LemmasAreLines, RowsAreWritten, RunsFollow, RunsHaveLines, RunsStayHeld, SettlingWritesNothing, StartIsWritten, StartsHeld, StepsStayHeld};
 ghost use Rattle.fm_steps.specs.Offered.{FalseLemmasAreNew, ImplyIsDue, InstanceFails, LemmaIsDue, RaiseIsMet, SatIsMet, UnitLemmasAreNew};
 ghost use Rattle.fm_steps.specs.Readers.{ReadersCloseLevels, ReadersGoBack, ReadersStay};
@@ -76,10 +77,11 @@ pub fn offers_are_ready()
     ensures raise { RaiseIsReady }
 {}
 
-/// In each state there are tests that say what the two readers of equalities know, since congruence closure can be computed.
-/// It is a law of the definitions and does nothing.
+/// In each state there are tests that say what the two readers of equalities know, since congruence closure can be computed;
+/// and in a run that of Congruence is a congruence that keeps types. It is a law of the definitions and does nothing.
 pub fn states_are_known()
-    ensures { EachIsKnown }
+    ensures known { EachIsKnown }
+    ensures typed { TestsAreTyped }
 {}
 
 /// A lemma that is due is the clause of a good line of a certificate: of congruence closure, of a cardinality, of the sum or
