@@ -32,3 +32,4 @@ pub mod Shown
 pub mod Numbered
 pub mod Sounding
 pub mod Typed
+pub mod Adding

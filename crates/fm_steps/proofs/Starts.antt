@@ -185,3 +185,6 @@ start_sig p s st =
     let s1 : State = with_ground_clauses p.clauses (empty_state p) in
     let s2 : State = with_elements (range_with_len 0 p.sig.sorts) s1 in
     ap (λ (u : State). u.held.sig) st.after ∙ (sum_sig p.sig.sorts s2 ∙ (elements_sig (range_with_len 0 p.sig.sorts) s1 ∙ ground_sig p.clauses (empty_state p)))
+
+pub start_added : (p : Problem) (s : State) → IsStart p s → s.added ≡ []
+start_added p s st = ap (λ (x : Rest). x.added) (begun p s st).rest

@@ -3,15 +3,20 @@
 use Rattle.std.specs.Prelude.{◌≡◌, ◌⊎◌, ◌↔◌, ◌≤◌, ◌+◌, ℕ, suc, ◌<◌, true, false, List, [], ◌∷◌, ◌++◌, map, slice_get, Some}
 use Rattle.std.specs.List.{range_with_len}
 use Rattle.fm_base.specs.Resolution.{Has}
-use Rattle.fm_bank.specs.Interning.{find_atom, lit_in}
+use Rattle.fm_bank.specs.Interning.{find_atom, first_places, lit_in}
+use Rattle.fm_bank.specs.Instances.{ground_literals, is_substitution}
 use Rattle.fm_bank.specs.declared.atom.Atom.{Atom}
+use Rattle.fm_bank.specs.declared.clause.Clause.{Clause as FirstOrderClause}
 use Rattle.fm_bank.specs.declared.literal.Literal.{Literal}
+use Rattle.fm_guide.specs.declared.event.Event.{Event}
 use Rattle.fm_trail.specs.Trail.{level_of}
 use Rattle.fm_trail.specs.declared.entry.Entry.{Entry}
 use Rattle.fm_trail.specs.declared.entry.Why.{Why}
 use Rattle.fm_steps.specs.Lemmas.{are_known, is_known}
+use Rattle.fm_steps.specs.Lines.{IsSorted}
+use Rattle.fm_steps.specs.Runs.{IsReached}
 use Rattle.fm_steps.specs.Sizes.{card, is_refuted, is_unvalued, lit}
-use Rattle.fm_steps.specs.State.{Problem, State}
+use Rattle.fm_steps.specs.State.{Budget, Problem, State}
 
 -- an entry of level 0 is implied
 abbrev pub ZeroIsImplied : State → Type 0
@@ -77,3 +82,19 @@ pub record SizesAreInRow (p : Problem) (s : State) : Type 0 where
   pub cards : (u : ℕ) → u < p.sig.sorts → IsInRow s u
   pub bounds : (j : ℕ) → (is_known s (Atom.Bound j) ≡ true) ↔ ((p.sig.sorts ≤ j + 1) × (j ≤ s.bound))
   pub least : p.sig.sorts ≤ s.bound
+
+-- An added instance is of a clause, over terms of its variables' sorts, and its clause stands in the list.
+pub record IsAdded (p : Problem) (s : State) (i : ℕ) (subst : List ℕ) : Type 0 where
+  pub clause : FirstOrderClause
+  pub there : slice_get p.clauses i ≡ Some clause
+  pub typed : is_substitution p.sig s.held.terms clause.vars subst ≡ true
+  pub literals : List Literal
+  pub grounded : ground_literals s.held.terms subst clause.lits ≡ Some literals
+  pub stands : StandsIn s (first_places [] literals)
+
+abbrev pub AddedStand : Problem → State → Type 0
+AddedStand p s = (i : ℕ) (subst : List ℕ) → Has s.added (i, subst) → IsAdded p s i subst
+
+-- in every state of a run
+abbrev pub InstancesStand : Type 0
+InstancesStand = (p : Problem) (b : Budget) (events : List Event) (s : State) → IsSorted p → IsReached p b events s → AddedStand p s

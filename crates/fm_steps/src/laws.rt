@@ -1,4 +1,4 @@
-ghost use Rattle.fm_steps.specs.Bounds.{BoundIsFirst, BoundIsOpen, DecisionsAreLarge, SizesAreInRow, StartStays, ZeroIsImplied};
+ghost use Rattle.fm_steps.specs.Bounds.{BoundIsFirst, BoundIsOpen, DecisionsAreLarge, InstancesStand, SizesAreInRow, StartStays, ZeroIsImplied};
 ghost use Rattle.fm_steps.specs.Facts.{AtomsAreKnown, ClausesAreGuarded, HeadsAreWithin, InstancesAreCounted, IsLawful, PicksAreKnown, SizesAreAssumed, SmallerAreRefuted, TrailIsExplained};
 ghost use Rattle.fm_steps.specs.Grounded.{TestsAreTyped};
 ghost use Rattle.fm_steps.specs.Lines.{BoundsAreWritten, LemmasAreLines, RowsAreWritten, RunsFollow, RunsHaveLines, RunsStayHeld, SettlingWritesNothing, StartIsWritten, StartsHeld, StepsStayHeld};
@@ -166,4 +166,10 @@ pub fn runs_are_sound()
     ensures zero_level { HoldsInModels ZeroIsTrue }
     ensures sum { HoldsInModels SumIsReached }
     ensures refuted { HoldsInModels NoneIsRefuted }
+{}
+
+/// An instance that was added in a run is of a clause, over terms of its variables' sorts, and its clause stands in the list.
+/// It is a law of the definitions and does nothing.
+pub fn instances_stand()
+    ensures { InstancesStand }
 {}
