@@ -59,7 +59,7 @@ BoundIsFirst s =
     s.free ≡ false → (i : ℕ) (e : Entry) → slice_get s.trail.entries i ≡ Some e → e.why ≡ Why.Decision → e.level ≡ 1
     → DecidesBound s e
 
--- so the bound has no value, or is false at level 0, or is true as the first decision
+-- the bound is true as the first decision
 pub record BoundIsDecided (s : State) : Type 0 where
   pub place : ℕ
   pub entry : Entry
@@ -68,6 +68,7 @@ pub record BoundIsDecided (s : State) : Type 0 where
   pub first : entry.level ≡ 1
   pub decides : DecidesBound s entry
 
+-- so bounded it has no value, or is false at level 0, or is that decision
 abbrev pub BoundIsOpen : State → Type 0
 BoundIsOpen s = s.free ≡ false → (is_unvalued s (Atom.Bound s.bound) ≡ true) ⊎ ((is_refuted s (Atom.Bound s.bound) ≡ true) ⊎ BoundIsDecided s)
 

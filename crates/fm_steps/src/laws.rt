@@ -2,7 +2,7 @@ ghost use Rattle.fm_steps.specs.Bounds.{BoundIsFirst, BoundIsOpen, DecisionsAreL
 ghost use Rattle.fm_steps.specs.Facts.{AtomsAreKnown, ClausesAreGuarded, HeadsAreWithin, InstancesAreCounted, IsLawful, PicksAreKnown, SizesAreAssumed, SmallerAreRefuted, TrailIsExplained};
 ghost use Rattle.fm_steps.specs.Grounded.{TestsAreTyped};
 ghost use Rattle.fm_steps.specs.Lines.{BoundsAreWritten, LemmasAreLines, RowsAreWritten, RunsFollow, RunsHaveLines, RunsStayHeld, SettlingWritesNothing, StartIsWritten, StartsHeld, StepsStayHeld};
-ghost use Rattle.fm_steps.specs.Offered.{FalseLemmasAreNew, ImplyIsDue, InstanceFails, LemmaIsDue, RaiseIsMet, SatIsMet, UnitLemmasAreNew};
+ghost use Rattle.fm_steps.specs.Offered.{FalseLemmasAreNew, ImplyIsDue, InstanceFails, LemmaIsDue, PicksHold, RaiseIsMet, SatIsMet, UnitLemmasAreNew};
 ghost use Rattle.fm_steps.specs.Readers.{ReadersCloseLevels, ReadersGoBack, ReadersStay};
 ghost use Rattle.fm_steps.specs.Ready.{DecideIsReady, InstanceIsReady, LearnIsReady, RaiseIsReady, SatIsReady, SplitIsReady, TakeIsReady, TurnIsReady, UnitIsReady, UnsatIsReady};
 ghost use Rattle.fm_steps.specs.Soundness.{HoldsInModels, NoneIsRefuted, SumIsReached, ZeroIsTrue};
@@ -137,9 +137,11 @@ pub fn runs_decide_the_bound()
     ensures bound { HoldsInRuns (λ p s. BoundIsOpen s) }
 {}
 
-/// The known size atoms of every state of a run stand in a row. It is a law of the definitions and does nothing.
+/// The known size atoms of every state of a run stand in a row, and the test of a sort is of a true one. It is a law of the
+/// definitions and does nothing.
 pub fn sizes_are_in_row()
-    ensures { HoldsInRuns SizesAreInRow }
+    ensures row { HoldsInRuns SizesAreInRow }
+    ensures tests { HoldsInRuns (λ p s. PicksHold s) }
 {}
 
 /// Where Raise is offered in a run its row is met: every clause has a true literal, and nothing is due. A lemma that is false
