@@ -1,0 +1,4 @@
+pub mod BlockFaults
+pub mod FitLines
+pub mod SameMade
+pub mod TextFaults
