@@ -1,0 +1,12 @@
+use Rattle.std.proofs.Common.{◌≡◌, ◌||◌, take}
+use Rattle.fm_base.specs.declared.ids.Lit.{Lit}
+use Rattle.fm_resolve.specs.Marks.{Covers, SameMarks, is_in, is_member, is_member_but}
+use Rattle.fm_resolve.proofs.marks.Marks.mark_rest.Given as goal
+
+abbrev pub invariant-loop-lit : goal.invariant-loop-lit
+invariant-loop-lit l = record {
+  now : (k : Lit) → is_in l.self k ≡ (is_in l.fn.self k || is_member_but (take l.lit-index l.lits) l.but k);
+  found : l.found ≡ is_member (take l.lit-index l.lits) l.but;
+  covers : Covers l.self;
+  size : SameMarks l.fn.self l.self;
+}

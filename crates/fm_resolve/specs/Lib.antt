@@ -1,0 +1,4 @@
+pub mod Chains
+pub mod Marks
+pub mod Names
+pub mod Stores
