@@ -1,4 +1,5 @@
 pub mod BlockFaults
 pub mod FitLines
+pub mod LitLaws
 pub mod SameMade
 pub mod TextFaults

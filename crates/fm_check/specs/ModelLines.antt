@@ -53,3 +53,11 @@ bad_in_model sig at i = cond (are_sizes sig i) (bad_in_tables (reading_of i) (at
 -- No line is bad exactly where the whole is in its one form, over a signature whose ranks name its sorts.
 abbrev pub GoodLinesAreFit : Type 0
 GoodLinesAreFit = (sig : Sig) (at : ℕ) (i : Interp) → names_its_sorts sig ≡ true → (bad_in_model sig at i ≡ None) ↔ (is_fit sig i ≡ true)
+
+-- how many lines a table has, and tables one after the other
+abbrev pub lines_of_table : Table → ℕ
+lines_of_table t = 1 + length t.except
+
+abbrev pub lines_of_tables : List Table → ℕ
+lines_of_tables [] = 0
+lines_of_tables (t ∷ ts) = lines_of_table t + lines_of_tables ts

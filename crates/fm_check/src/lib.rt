@@ -3,6 +3,8 @@
 #![tactic(auto)]
 
 mod laws;
+mod lits;
+mod model;
 mod verdict;
 
 pub use laws::{good_lines_are_fit, good_texts_hold, not_both, one_first_fault};
