@@ -1,6 +1,7 @@
 pub mod BlockReads
 pub mod BlockRows
 pub mod FirstRows
+pub mod Fronts
 pub mod Gathered
 pub mod Kept
 pub mod NumberText

@@ -39,3 +39,7 @@ StopsAt left line = (text : List ℕ) (blocks : List Block) → IsAt text blocks
 -- some blocks are what the text says
 abbrev pub IsCertificate : List ℕ → Type 0
 IsCertificate text = (blocks : List Block) × Spells text blocks
+
+-- The blocks that were read are the first ones of those that the whole text spells.
+abbrev pub ReadBlocksComeFirst : Type 0
+ReadBlocksComeFirst = (text : List ℕ) (blocks : List Block) (left : Left) → IsAt text blocks left → IsCertificate text → (more : List Block) × Spells text (blocks ++ more)

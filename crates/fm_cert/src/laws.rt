@@ -1,3 +1,4 @@
+ghost use Rattle.fm_cert.specs.Blockwise.{ReadBlocksComeFirst};
 ghost use Rattle.fm_cert.specs.Claims.{BlocksAreSound, GoodLinesHold};
 ghost use Rattle.fm_cert.specs.Fits.{ReadBlocksPrint};
 ghost use Rattle.fm_cert.specs.Outside.{NoTextIsBoth, OutsideIsOneLine, SpellingIsOfOne};
@@ -30,4 +31,10 @@ pub fn one_certificate()
 /// A block that was read can be printed. It is a law of the definitions and does nothing.
 pub fn read_blocks_print()
     ensures { ReadBlocksPrint }
+{}
+
+/// The blocks that a reader has read are the first ones of those that the whole text spells, where some do. It is a law of
+/// the definitions and does nothing.
+pub fn read_blocks_come_first()
+    ensures { ReadBlocksComeFirst }
 {}

@@ -19,6 +19,7 @@ pub use block::{Block, Claim, Line};
 pub use blocks::{Blocks, first_outside, read};
 pub use fail::{CertFail, CertText};
 pub use laws::{
-    blocks_are_sound, good_lines_hold, not_both, one_certificate, one_line, read_blocks_print,
+    blocks_are_sound, good_lines_hold, not_both, one_certificate, one_line, read_blocks_come_first,
+    read_blocks_print,
 };
 pub use text::{header_line, print};
