@@ -1,9 +1,8 @@
 -- Resolution speaks of sets: lists that are one set give one another's results.
-use Rattle.std.proofs.Common.{◌≡◌, ◌≢◌, ℕ, zero, suc, ◌+◌, ◌<◌, ◌≤◌, ◌⊎◌, inl, inr, Bool, true, false, ◌||◌, List, [], ◌∷◌, drop, get_or, Some, length, refl, sym, ap, subst, ◌∙◌, arith}
-use Rattle.std.specs.Prelude.{◌↔◌, slice_get}
+use Rattle.std.proofs.Common.{◌≡◌, ℕ, zero, suc, inl, inr, true, false, ◌||◌, List, [], ◌∷◌, Some, refl, sym, subst, ◌∙◌, arith}
+use Rattle.std.specs.Prelude.{slice_get}
 use Rattle.std.specs.List.{AllByRecursion}
 use Rattle.std.proofs.lemmas.Bool.{or_cases, or_right, false≢true}
-use Rattle.std.proofs.lemmas.List.{drop_more, drop_all}
 use Rattle.fm_base.specs.declared.ids.Lit.{Lit}
 use Rattle.fm_resolve.specs.declared.marks.Marks.{Marks}
 use Rattle.fm_resolve.specs.Chains.{Has, SameSet}

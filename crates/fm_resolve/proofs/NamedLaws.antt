@@ -1,6 +1,5 @@
 -- Literals by number and by name: a resolution on numbers is one on names, where each number has one name.
 use Rattle.std.proofs.Common.{◌≡◌, ◌≢◌, ◌⊎◌, inl, inr, List, [], ◌∷◌, map, refl, sym, ap, subst, ◌∙◌}
-use Rattle.std.specs.Prelude.{◌↔◌}
 use Rattle.std.specs.List.{AllByRecursion}
 use Rattle.fm_base.specs.declared.ids.Lit.{Lit}
 use Rattle.fm_bank.specs.declared.literal.Literal.{Literal}

@@ -1,12 +1,12 @@
 -- A step of a resolution, by names: each literal in question has its number.
-use Rattle.std.proofs.Common.{◌≡◌, ℕ, inl, inr, List, Option, Some, None, refl, sym, ap, subst, ◌∙◌}
+use Rattle.std.proofs.Common.{◌≡◌, ℕ, inl, inr, List, Some, None, sym, subst, ◌∙◌}
 use Rattle.std.specs.Prelude.{slice_get}
 use Rattle.fm_base.specs.declared.ids.Lit.{Lit}
 use Rattle.fm_bank.specs.declared.atom.Atom.{Atom}
 use Rattle.fm_bank.specs.declared.literal.Literal.{Literal}
 use Rattle.fm_cert.specs.Lines.{Clause, Has as HasName, Resolves as ResolvesNames, SameSet as SameNames, opposite as opposite_name}
 use Rattle.fm_resolve.specs.Chains.{Has, Resolves, SameSet, opposite}
-use Rattle.fm_resolve.specs.Names.{AllNumbered, AreNumbered, IsNumbered, all_names, name, names}
+use Rattle.fm_resolve.specs.Names.{AreNumbered, IsNumbered, all_names, name, names}
 use Rattle.fm_resolve.proofs.NameLaws.{clause_named, clause_none, numbered_turned, one_name, turned}
 use Rattle.fm_resolve.proofs.NamedLaws.{all_at, all_from, numbered, numbered_at, resolves_named, same_named}
 

@@ -1,6 +1,6 @@
 -- A set of literals by marks, one for each literal, and the list of those that were ever marked.
-use Rattle.std.specs.Prelude.{◌≡◌, ℕ, ◌<◌, ◌==◌, Bool, true, false, ◌&&◌, ◌||◌, not, cond, List, [], ◌∷◌, length, slice_index_or}
-use Rattle.std.specs.List.{AllByRecursion, filter, list_any}
+use Rattle.std.specs.Prelude.{◌≡◌, ◌<◌, ◌==◌, Bool, true, false, ◌&&◌, not, cond, List, length, slice_index_or}
+use Rattle.std.specs.List.{filter, list_any}
 use mathlib.Core.Bool.{beq}
 use Rattle.fm_base.specs.declared.ids.Lit.{Lit}
 use Rattle.fm_resolve.specs.declared.marks.Mark.{Mark}

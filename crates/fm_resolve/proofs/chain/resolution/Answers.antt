@@ -1,7 +1,7 @@
 use Rattle.std.proofs.Common.{sym, subst, List}
 use Rattle.fm_base.specs.declared.ids.Lit.{Lit}
 use Rattle.fm_cert.specs.Lines.{SameSet as SameNames}
-use Rattle.fm_resolve.specs.Chains.{Has, SameSet}
+use Rattle.fm_resolve.specs.Chains.{Has}
 use Rattle.fm_resolve.specs.Marks.{members}
 use Rattle.fm_resolve.specs.Names.{IsNumbered, all_names, names}
 use Rattle.fm_resolve.proofs.ChainLaws.{started}

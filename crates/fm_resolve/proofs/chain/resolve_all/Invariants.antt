@@ -1,4 +1,4 @@
-use Rattle.std.proofs.Common.{◌≡◌, drop, List}
+use Rattle.std.proofs.Common.{drop}
 use Rattle.std.specs.Prelude.{◌↔◌}
 use Rattle.fm_cert.specs.Lines.{Chain, Clause}
 use Rattle.fm_resolve.specs.Marks.{Covers, SameMarks, members}

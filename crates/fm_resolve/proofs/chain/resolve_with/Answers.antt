@@ -1,9 +1,8 @@
-use Rattle.std.proofs.Common.{◌≡◌, List, Some, None, sym, ap, subst, ◌∙◌}
+use Rattle.std.proofs.Common.{◌≡◌, Some, sym, subst}
 use Rattle.std.specs.Prelude.{slice_get}
-use Rattle.fm_base.specs.declared.ids.Lit.{Lit}
 use Rattle.fm_cert.specs.Lines.{Clause, Has as HasName, opposite as opposite_name}
 use Rattle.fm_resolve.specs.Marks.{members}
-use Rattle.fm_resolve.specs.Names.{AreNumbered, all_names, names}
+use Rattle.fm_resolve.specs.Names.{names}
 use Rattle.fm_resolve.proofs.NameLaws.{clause_named, clause_numbered, have_marks}
 use Rattle.fm_resolve.proofs.StepNames.{no_clause, one_clause, step_no, step_numbered, step_yes, stop_name}
 use Rattle.fm_resolve.proofs.chain.resolve_with.Goals as goal

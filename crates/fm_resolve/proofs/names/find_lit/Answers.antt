@@ -1,4 +1,4 @@
-use Rattle.std.proofs.Common.{◌≡◌, Some, sym, ◌∙◌}
+use Rattle.std.proofs.Common.{sym, ◌∙◌}
 use Rattle.fm_resolve.proofs.NameLaws.{name_by, numbered_by}
 use Rattle.fm_resolve.proofs.names.find_lit.Goals as goal
 

@@ -1,4 +1,4 @@
-use Rattle.std.proofs.Common.{◌≡◌, ◌||◌, ◌≤◌, List, ap, sym, subst, ◌∙◌, length, take, arith}
+use Rattle.std.proofs.Common.{◌||◌, ◌≤◌, List, ap, ◌∙◌, length, arith}
 use Rattle.std.proofs.lemmas.List.{take_all}
 use Rattle.fm_base.specs.declared.ids.Lit.{Lit}
 use Rattle.fm_resolve.specs.Marks.{is_member, is_never, mark_of}

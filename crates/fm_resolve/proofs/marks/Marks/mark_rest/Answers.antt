@@ -1,4 +1,4 @@
-use Rattle.std.proofs.Common.{◌≡◌, ◌||◌, ◌&&◌, not, sym, ◌∙◌}
+use Rattle.std.proofs.Common.{◌||◌, ◌&&◌, not, sym, ◌∙◌}
 use Rattle.fm_base.specs.declared.ids.Lit.{Lit}
 use Rattle.fm_resolve.specs.Marks.{is_in, is_same}
 use Rattle.fm_resolve.proofs.MarkLaws.{any_more, more_in}

@@ -1,4 +1,4 @@
-use Rattle.std.proofs.Common.{◌≡◌, List, Some, None, sym, ap, subst, ◌∙◌}
+use Rattle.std.proofs.Common.{sym, ◌∙◌}
 use Rattle.fm_resolve.proofs.AloneLaws.{alone_none, alone_some, nowhere}
 use Rattle.fm_resolve.proofs.store.Store.has_alone.Goals as goal
 

@@ -1,4 +1,4 @@
-use Rattle.std.proofs.Common.{◌≡◌, List, sym, subst, ◌∙◌}
+use Rattle.std.proofs.Common.{sym, ◌∙◌}
 use Rattle.fm_resolve.proofs.NameLaws.{none_named, some_empty}
 use Rattle.fm_resolve.proofs.store.Store.has_empty.Goals as goal
 

@@ -1,5 +1,4 @@
-use Rattle.std.proofs.Common.{◌≡◌, List, Some, sym, ap, subst, ◌∙◌, arith}
-use Rattle.fm_resolve.specs.Names.{AllNumbered}
+use Rattle.std.proofs.Common.{arith}
 use Rattle.fm_resolve.proofs.NameLaws.{all_kept, found_put, name_by, numbered_by, put_front}
 use Rattle.fm_resolve.proofs.store.Store.number.Goals as goal
 

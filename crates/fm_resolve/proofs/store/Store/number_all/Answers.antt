@@ -1,4 +1,4 @@
-use Rattle.std.proofs.Common.{◌≡◌, List, sym, subst, ◌∙◌}
+use Rattle.std.proofs.Common.{◌∙◌}
 use Rattle.fm_bank.proofs.Growing.{front-trans}
 use Rattle.fm_resolve.proofs.NameLaws.{named_next, pushed_numbered}
 use Rattle.fm_resolve.proofs.store.Store.number_all.Goals as goal

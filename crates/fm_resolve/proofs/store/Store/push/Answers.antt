@@ -1,5 +1,4 @@
-use Rattle.std.proofs.Common.{◌≡◌, List, sym, ap, subst, ◌∙◌}
-use Rattle.fm_base.specs.declared.ids.Lit.{Lit}
+use Rattle.std.proofs.Common.{ap, ◌∙◌}
 use Rattle.fm_resolve.specs.Names.{all_names, names}
 use Rattle.fm_resolve.specs.Stores.{clauses_in}
 use Rattle.fm_resolve.proofs.NameLaws.{all_names_kept, on_pushed}
