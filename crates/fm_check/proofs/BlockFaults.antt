@@ -1,12 +1,11 @@
 -- A block isn't both good and at fault, and has one first fault.
-use Rattle.std.proofs.Common.{◌≡◌, ℕ, zero, suc, ◌+◌, ◌⊎◌, inl, inr, List, [], ◌∷◌, length, Option, Some, None, refl, sym, ap, subst, ◌∙◌}
-use Rattle.std.specs.Prelude.{slice_get}
+use Rattle.std.proofs.Common.{◌≡◌, ℕ, zero, suc, ◌+◌, inl, inr, List, [], ◌∷◌, Option, Some, None, refl, sym, ap, subst, ◌∙◌}
 use Rattle.fm_cert.specs.Claims.{IsGoodBlock, IsGoodEnding, ShowsLeast}
-use Rattle.fm_cert.specs.Lines.{AreGoodLines, Clause, Made, Makes, Problem, SameSet, above, nothing}
+use Rattle.fm_cert.specs.Lines.{AreGoodLines, Clause, Made, Problem, SameSet, above, nothing}
 use Rattle.fm_cert.specs.declared.block.Block.{Block}
 use Rattle.fm_cert.specs.declared.block.Claim.{Claim}
 use Rattle.fm_cert.specs.declared.block.Line.{Line}
-use Rattle.fm_check.specs.Faults.{IsBadLine, IsBlockFault, IsEndingFault, IsFirstBad, bad_behind, ending_line}
+use Rattle.fm_check.specs.Faults.{IsBlockFault, IsEndingFault, IsFirstBad, bad_behind, ending_line}
 use Rattle.fm_check.specs.ModelLines.{bad_in_model}
 use Rattle.fm_check.specs.declared.verdict.Fault.{Fault}
 use Rattle.fm_check.proofs.FitLines.{fit_lines}

@@ -1,11 +1,11 @@
 -- The lines of a model are good one after the other exactly where its tables are in their one form.
-use Rattle.std.proofs.Common.{◌≡◌, ℕ, zero, suc, ◌+◌, inl, inr, Bool, true, false, not, ◌&&◌, ◌||◌, cond, List, [], ◌∷◌, length, Option, Some, None, refl, sym, ap, ◌∙◌, arith}
-use Rattle.std.specs.Prelude.{◌==◌, ◌↔◌, nat_le, nat_lt}
+use Rattle.std.proofs.Common.{◌≡◌, ℕ, ◌+◌, Bool, true, false, not, ◌&&◌, ◌||◌, cond, List, [], ◌∷◌, length, Option, Some, None, refl, arith}
+use Rattle.std.specs.Prelude.{◌==◌, ◌↔◌, nat_le}
 use Rattle.std.specs.List.{list_all}
 use Rattle.std.specs.Cmp.Lexicographic.{slice_cmp}
 use Rattle.std.specs.Ordering.{nat_cmp, is_lt}
-use Rattle.std.proofs.lemmas.Bool.{and_from, and_parts, eq-eqb, eqb-true, false≢true, or_cases, or_left, or_right}
-use Rattle.fm_base.specs.Interpretations.{Reading, are_tables, ascends, ascends_after, is_exception, is_fit, is_nil, is_table, names_its_sorts, reading_of, values_of}
+use Rattle.std.proofs.lemmas.Bool.{and_from, and_parts, eq-eqb, eqb-true, false≢true, or_left, or_right}
+use Rattle.fm_base.specs.Interpretations.{Reading, are_tables, ascends, ascends_after, is_exception, is_fit, is_nil, is_table, names_its_sorts, reading_of}
 use Rattle.fm_base.specs.declared.interp.Interp.{Interp}
 use Rattle.fm_base.specs.declared.interp.Table.{Table}
 use Rattle.fm_base.specs.declared.signature.Rank.{Rank}

@@ -1,11 +1,11 @@
 -- What a line makes is one up to order and repeats, and so is what good lines make one after the other.
 use Rattle.std.proofs.Common.{◌≡◌, ◌≢◌, ℕ, zero, suc, ◌+◌, ◌⊎◌, inl, inr, List, [], ◌∷◌, ◌++◌, Some, refl, sym, ap, subst, ◌∙◌}
-use Rattle.std.specs.Prelude.{◌↔◌, slice_get}
+use Rattle.std.specs.Prelude.{slice_get}
 use Rattle.fm_bank.specs.Instances.{ground_literals}
 use Rattle.fm_bank.specs.Terms.{Term, application, numbers}
 use Rattle.fm_bank.specs.declared.clause.Clause.{Clause as FirstOrderClause}
 use Rattle.fm_bank.specs.declared.literal.Literal.{Literal}
-use Rattle.fm_cert.specs.Lines.{AreGoodLines, Chain, Clause, Has, Made, Makes, MakesClause, Problem, Resolves, SameSet, above, at_most, more_than, nothing, opposite, some_equal, sum_clause, with_clause, with_new_term, within}
+use Rattle.fm_cert.specs.Lines.{AreGoodLines, Chain, Clause, Has, Made, Makes, MakesClause, Problem, Resolves, SameSet, above, at_most, more_than, nothing, opposite, some_equal, sum_clause, within}
 use Rattle.fm_cert.specs.declared.block.Line.{Line}
 
 set_refl : (a : Clause) → SameSet a a

@@ -1,8 +1,7 @@
 -- A certificate isn't both good and at fault, has one first fault, and what it claims holds.
-use Rattle.std.proofs.Common.{◌≡◌, ℕ, ◌+◌, ◌⊎◌, inl, inr, List, [], ◌∷◌, length, sym, ap, subst, ◌∙◌}
-use Rattle.fm_cert.specs.Claims.{AreGoodFrom, HasTable}
+use Rattle.std.proofs.Common.{◌≡◌, ℕ, ◌+◌, inl, inr, List, [], ◌∷◌, length, sym, ap, subst, ◌∙◌}
+use Rattle.fm_cert.specs.Claims.{AreGoodFrom}
 use Rattle.fm_cert.specs.Lines.{Problem}
-use Rattle.fm_cert.specs.Outside.{Spells}
 use Rattle.fm_cert.specs.Rows.{rows_of_block}
 use Rattle.fm_cert.specs.declared.block.Block.{Block}
 use Rattle.fm_cert.proofs.OneValue.{one_certificate}

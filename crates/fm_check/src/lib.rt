@@ -2,10 +2,18 @@
 //! rule.
 #![tactic(auto)]
 
+mod blocks;
+mod conflict;
+mod ending;
 mod laws;
 mod lits;
 mod model;
+mod progress;
+mod state;
+#[cfg(test)]
+mod tests;
 mod verdict;
 
 pub use laws::{good_lines_are_fit, good_texts_hold, not_both, one_first_fault};
+pub use progress::{Step, check_end, check_next};
 pub use verdict::{Fault, Rule};
