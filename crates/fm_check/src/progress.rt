@@ -13,8 +13,8 @@ use fm_base::{Formula, Memory, Sig};
 use fm_cert::{Block, Blocks, CertFail, Claim};
 use std::alloc::Global;
 
-/// What is found of a certificate's next block: it is good and claims this, or this is the first fault of the certificate, or
-/// nothing is left.
+/// What is found of a certificate's next block: it is good and claims this, or this is the first fault of the certificate,
+/// or nothing is left.
 #[derive(Drop)]
 pub enum Step {
     Good(Claim),
@@ -55,8 +55,9 @@ fn check_found(
     }
 }
 
-/// Checks the next block of a certificate for the next problem: what is in force with its clause table. `number` is the number of
-/// blocks so far. The text of the reader is one in which `first_outside` finds no line.
+/// Checks the next block of a certificate for the next problem: what is in force with its clause table. `number` is the
+/// number of blocks so far. The text of the reader is one in which `first_outside` finds no line. After want of memory the
+/// reader may stand behind the block, so it is given up.
 pub fn check_next(
     alloc: Global,
     reader: &mut Blocks,
