@@ -1,10 +1,4 @@
-pub mod BlockFaults
-pub mod ConflictLaws
-pub mod EndingLaws
-pub mod FitLines
-pub mod OverLaws
-pub mod ProgressLaws
-pub mod SameMade
-pub mod StateLaws
-pub mod TakeLaws
-pub mod TextFaults
+pub mod Carried
+pub mod Finding
+pub mod Holding
+pub mod Lists

@@ -1,6 +1,4 @@
-pub mod Conflicts
-pub mod Endings
-pub mod Faults
-pub mod ModelLines
-pub mod Progress
-pub mod States
+pub mod Carrying
+pub mod Printed
+pub mod Scripts
+pub mod Verdicts

@@ -1,19 +1,14 @@
-//! The checker of certificates, whoever made them: accepted where every line is good, else the first line that isn't and its
-//! rule.
+//! The checker of certificates, whoever made them: a script is judged, and then the text of a certificate for it.
 #![tactic(auto)]
 
-mod blocks;
-mod conflict;
-mod ending;
-mod laws;
-mod lits;
-mod model;
+mod commands;
+mod judging;
+mod printed;
 mod progress;
-mod state;
-#[cfg(test)]
-mod tests;
 mod verdict;
+mod whole;
 
-pub use laws::{good_lines_are_fit, good_texts_hold, not_both, one_first_fault};
-pub use progress::{Step, check_end, check_next};
-pub use verdict::{Fault, Rule};
+pub use judging::{Judged, judge};
+pub use printed::{rejected_line, verdict_lines};
+pub use verdict::{CheckFail, Verdict};
+pub use whole::{check, check_text};

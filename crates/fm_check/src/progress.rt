@@ -1,106 +1,105 @@
-ghost use Rattle.std.specs.Prelude.{◌≡◌, ◌+◌, ◌<◌, ◌^◌, length, true, IfOk, IfSome, IfNone};
-ghost use Rattle.std.specs.List.{list_all};
-ghost use Rattle.fm_base.specs.Interpretations.{names_its_sorts};
-ghost use Rattle.fm_base.specs.Truth.{is_closed};
-ghost use Rattle.fm_cert.specs.Rows.{rows_of_block};
-ghost use Rattle.fm_check.specs.Progress.{FoundIs, IsAllGood, IsLeftOver, IsReading, StepIs, bad_step};
-ghost use Rattle.fm_check.specs.States.{with_table};
+ghost use Rattle.std.specs.Prelude.{◌≡◌, length, true, None, IfOk};
+ghost use Rattle.fm_check.specs.Carrying.{Finds, FindsNext, Goes, IsUnderWay, refusal_at};
+ghost use Rattle.fm_check.specs.Scripts.{in_force, problems_from};
+ghost use Rattle.fm_elab.specs.Checks.{refused_from};
+ghost use Rattle.fm_elab.specs.Held.{state_of};
+ghost use Rattle.fm_elab.specs.SortLaw.{IsSortedState};
+ghost use Rattle.fm_sexp.specs.Items.{all_within, spans_within};
 
-use crate::blocks::check_block;
-use crate::verdict::{Fault, Rule};
-use fm_bank::ClauseSet;
-use fm_base::{Formula, Memory, Sig};
-use fm_cert::{Block, Blocks, CertFail, Claim};
+use crate::commands::{Kind, carry_out};
+use fm_base::{Fail, Memory};
+use fm_blocks::{Fault, Step, check_end, check_next};
+use fm_cert::{Blocks, Claim};
+use fm_clauses::{Problem, clauses_of};
+use fm_elab::Scopes;
+use fm_sexp::Sexp;
 use std::alloc::Global;
 
-/// What is found of a certificate's next block: it is good and claims this, or this is the first fault of the certificate,
-/// or nothing is left.
-#[derive(Drop)]
-pub enum Step {
-    Good(Claim),
-    Bad(Fault),
-    End,
+// What a `check-sat` finds: its block is good, or the verdict: a fault, or that nothing is left.
+pub(crate) enum Next {
+    Good,
+    Found(Option<Fault>),
 }
 
-fn bad(line: u64, rule: Rule) -> Step
-    ensures { result ≡ bad_step line rule }
-{
-    Step::Bad(Fault { line, rule })
-}
-
-// What is found of a block whose line `b` is the line `at`.
-fn check_found(
+// Checks the next block for what is in force.
+fn check_one(
     alloc: Global,
-    number: u64,
-    sig: &Sig,
-    assertions: &[Formula],
-    table: &ClauseSet,
-    block: Block,
-    at: u64,
-) -> Result<Step, Memory>
-    requires names { names_its_sorts sig.now ≡ true }
-    requires closed { list_all (λ f. is_closed f sig.now) assertions.now ≡ true }
-    requires room { at + length (rows_of_block block) < 2 ^ 64 }
-    ensures { IfOk result (λ s. FoundIs (with_table sig.now assertions.now table.now) number at block s) }
-{
-    if block.number != number {
-        return Ok(bad(at, Rule::B));
-    }
-    match check_block(alloc, sig, assertions, table, &block, at)? {
-        Some(fault) => Ok(Step::Bad(fault)),
-        None => {
-            let Block { claim, .. } = block;
-            Ok(Step::Good(claim))
-        }
-    }
-}
-
-/// Checks the next block of a certificate for the next problem: what is in force with its clause table. `number` is the
-/// number of blocks so far. The text of the reader is one in which `first_outside` finds no line. After want of memory the
-/// reader may stand behind the block, so it is given up.
-pub fn check_next(
-    alloc: Global,
+    scopes: &Scopes,
     reader: &mut Blocks,
-    number: u64,
-    sig: &Sig,
-    assertions: &[Formula],
-    table: &ClauseSet,
-) -> Result<Step, Memory>
-    requires reader { IsReading reader.old }
-    requires names { names_its_sorts sig.now ≡ true }
-    requires closed { list_all (λ f. is_closed f sig.now) assertions.now ≡ true }
-    ensures { IfOk result (λ s. StepIs (with_table sig.now assertions.now table.now) reader.old number s reader.new) }
+    claims: &mut Vec<Claim>,
+) -> Result<Next, Memory>
+    requires sorted { IsSortedState (state_of scopes.now) }
+    requires reading { IsUnderWay reader.old claims.old.items }
+    ensures { IfOk result (λ n. FindsNext (in_force (state_of scopes.now)) reader.old claims.old.items n reader.new claims.new.items) }
 {
-    let at = reader.line();
-    match reader.next(alloc) {
-        Err(CertFail::Memory) => Err(Memory),
-        Err(CertFail::Text(outside)) => Ok(bad(outside.line, Rule::Text)),
-        Ok(None) => Ok(Step::End),
-        Ok(Some(block)) => {
-            // The block's lines end before this one, so their numbers are below 2^64.
-            let _behind = reader.line();
-            let step = check_found(alloc, number, sig, assertions, table, block, at)?;
-            Ok(step)
+    let problem = scopes.problem()?;
+    let assertions = problem.assertions;
+    let sig = &problem.sig;
+    let table = clauses_of(alloc, &Problem { sig, assertions })?;
+    let number = claims.as_slice().len() as u64;
+    match check_next(alloc, reader, number, sig, assertions, &table)? {
+        Step::Good(claim) => {
+            claims.push(claim)?;
+            Ok(Next::Good)
+        }
+        Step::Bad(fault) => Ok(Next::Found(Some(fault))),
+        Step::End => Ok(Next::Found(None)),
+    }
+}
+
+// Carries the next command out; a `check-sat` finds its block, and behind `exit` nothing may be left.
+fn check_item<'a>(
+    alloc: Global,
+    scopes: &mut Scopes<'a>,
+    text: &'a [u8],
+    item: &'a Sexp,
+    reader: &mut Blocks,
+    claims: &mut Vec<Claim>,
+) -> Result<Next, Memory>
+    requires within { spans_within (length text.now) item.now ≡ true }
+    requires free { refusal_at text.now (state_of scopes.old) item.now ≡ None }
+    requires sorted { IsSortedState (state_of scopes.old) }
+    requires reading { IsUnderWay reader.old claims.old.items }
+    ensures { IfOk result (λ n. Goes text.now (state_of scopes.old) item.now reader.old claims.old.items n
+        (state_of scopes.new) reader.new claims.new.items) }
+{
+    match carry_out(alloc, scopes, text, item) {
+        Err(Fail::Memory) => Err(Memory),
+        Err(Fail::Refused(_)) => unreachable!(),
+        Ok(Kind::Other) => Ok(Next::Good),
+        Ok(Kind::Exit) => {
+            let found = check_end(alloc, reader)?;
+            Ok(Next::Found(found))
+        }
+        Ok(Kind::Check) => {
+            let next = check_one(alloc, scopes, reader, claims)?;
+            Ok(next)
         }
     }
 }
 
-/// The fault of a certificate whose reader has something left where no problem is.
-pub fn check_end(alloc: Global, reader: &mut Blocks) -> Result<Option<Fault>, Memory>
-    ensures good { IfOk result (λ o. IfNone o (IsAllGood reader.old)) }
-    ensures bad { IfOk result (λ o. IfSome o (λ f. IsLeftOver reader.old f)) }
+/// Checks the blocks that are left for the `check-sat` commands of the items before `exit`: the first fault, or none.
+pub(crate) fn check_items<'a>(
+    alloc: Global,
+    scopes: &mut Scopes<'a>,
+    text: &'a [u8],
+    items: &'a [Sexp],
+    reader: &mut Blocks,
+    claims: &mut Vec<Claim>,
+) -> Result<Option<Fault>, Memory>
+    requires within { all_within (length text.now) items.now ≡ true }
+    requires free { refused_from text.now (state_of scopes.old) items.now ≡ None }
+    requires sorted { IsSortedState (state_of scopes.old) }
+    requires reading { IsUnderWay reader.old claims.old.items }
+    ensures { IfOk result (λ o. Finds (problems_from text.now (state_of scopes.old) items.now) reader.old claims.old.items o
+        claims.new.items) }
 {
-    let line = reader.line();
-    match reader.next(alloc) {
-        Err(CertFail::Memory) => Err(Memory),
-        Err(CertFail::Text(outside)) => Ok(Some(Fault {
-            line: outside.line,
-            rule: Rule::Text,
-        })),
-        Ok(None) => Ok(None),
-        Ok(Some(_)) => Ok(Some(Fault {
-            line,
-            rule: Rule::B,
-        })),
+    for item in items {
+        match check_item(alloc, scopes, text, item, reader, claims)? {
+            Next::Good => {}
+            Next::Found(found) => return Ok(found),
+        }
     }
+    let found = check_end(alloc, reader)?;
+    Ok(found)
 }

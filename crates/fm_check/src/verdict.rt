@@ -1,23 +1,18 @@
-/// What a certificate's line can break: the text, the number of a block, a line's own rule by its letter, the ending and the
-/// model.
-#[derive(Clone, Copy, Debug, PartialEq, Eq)]
-pub enum Rule {
-    Text,
-    B,
-    T,
-    I,
-    E,
-    C,
-    S,
-    O,
-    R,
-    Q,
-    M,
+use fm_base::Refusal;
+use fm_blocks::Rule;
+use fm_cert::Claim;
+
+/// A certificate is good for a script, and these are the claims of its blocks in order; or it isn't, and this is the first line
+/// that isn't good, numbered from 1, with the rule that it breaks.
+#[derive(Drop)]
+pub enum Verdict {
+    Accepted(Vec<Claim>),
+    Rejected { line: u64, rule: Rule },
 }
 
-/// The first line of a certificate's text that isn't good, and the rule that it breaks.
+/// The script has a refusal, so there is nothing to check; or memory was wanted.
 #[derive(Clone, Copy, Debug, PartialEq, Eq)]
-pub struct Fault {
-    pub line: u64,
-    pub rule: Rule,
+pub enum CheckFail {
+    Script(Refusal),
+    Memory,
 }

@@ -66,6 +66,7 @@ items_complete script cert old mid new Status.WriteFault same (inr (w, block, re
 }
 items_complete script cert old mid new Status.Usage same h = absurd h
 items_complete script cert old mid new Status.ReadFault same h = absurd h
+items_complete script cert old mid new Status.Rejected same h = absurd h
 
 pub reply_complete : (refusal : Refusal) (old mid new : Seen) (status : Status) → Same old mid → Refused refusal mid new status → CompleteReply refusal old new status
 reply_complete refusal old mid new Status.Script same h = λ room. (λ e. cc e, NoFault-then old mid new same.quiet (h.quiet (HasRoom-same (old.room dash) (mid.room dash) _ (same.rooms dash) room)))
@@ -74,6 +75,7 @@ reply_complete refusal old mid new Status.Memory same h = λ room. (λ e. cc e, 
 reply_complete refusal old mid new Status.Done same h = absurd h
 reply_complete refusal old mid new Status.Usage same h = absurd h
 reply_complete refusal old mid new Status.ReadFault same h = absurd h
+reply_complete refusal old mid new Status.Rejected same h = absurd h
 
 text_complete : (budget : Budget) (text cert : List ℕ) (old mid new : Seen) (status : Status) → Same old mid → Wrote budget text cert mid new status → CompleteText budget text cert old new status
 text_complete budget text cert old mid new status same (inl (items, reads, h)) = inl (items, reads, items_complete _ cert old mid new status same h)

@@ -13,7 +13,7 @@ use Rattle.fmf.specs.Answers.{Script, Work, certificate}
 use Rattle.fmf.specs.Filing.{Filed, Written, StandsPart, Others}
 use Rattle.fmf.specs.Headline.{Certifies, Claims, LeavesOthers}
 use Rattle.fmf.specs.Solved.{Solved, Took, Answered, Refused}
-use Rattle.fmf.specs.Words.{Request, dash}
+use Rattle.fmf.specs.Words.{Command, Request, dash}
 use Rattle.fmf.specs.declared.status.Status.{Status}
 
 pub certifies : (r : Request) (text : List ℕ) (items : List Sexp) (old mid new : Seen) (out : List ℕ) → Took r.script old mid text → OnlyWrites mid new → ReadsAs text items → (w : Work (record { budget = r.budget; text = text; items = items })) → Filed r.cert mid new (certificate w) out → Certifies r old new
@@ -30,11 +30,21 @@ certifies r text items old mid new out took writes reads w filed =
       good = good_from r.budget 0 (problems_of text items) w.blocks answered;
     }
 
+never_rejected : (r : Request) (old new : Seen) → Solved r old new Status.Rejected → ⊥
+never_rejected r old new h = elim h [
+  | inl whole ↦ elim whole.wrote [ inl a ↦ absurd a.2 | inr other ↦ elim other [ inl refused ↦ absurd refused.2 | inr memory ↦ absurd (cc memory.0) ] ]
+  | inr other ↦ elim other [
+    | inl long ↦ absurd long.refused
+    | inr failed ↦ elim failed.answer [ inl e ↦ absurd (cc e.0) | inr e ↦ absurd (cc e) ]
+  ]
+]
+
 pub claims : (r : Request) (old new : Seen) (status : Status) → r.cert ≢ dash → Solved r old new status → Claims r old new status
 claims r old new Status.Memory apart h = tt
 claims r old new Status.WriteFault apart h = tt
 claims r old new Status.ReadFault apart h = tt
 claims r old new Status.Usage apart h = tt
+claims r old new Status.Rejected apart h = never_rejected r old new h
 claims r old new Status.Done apart h = elim h [
   | inl whole ↦ elim whole.wrote [
     | inl a ↦ certifies r whole.text a.0 old whole.between new a.2.0.replies whole.took whole.writes a.1 a.2.0 a.2.2
@@ -69,6 +79,7 @@ answered_others script cert old new Status.WriteFault h = elim h [
 ]
 answered_others script cert old new Status.Usage h = absurd h
 answered_others script cert old new Status.ReadFault h = absurd h
+answered_others script cert old new Status.Rejected h = absurd h
 
 refused_others : (refusal : Refusal) (cert : List ℕ) (old new : Seen) (status : Status) → Refused refusal old new status → Others cert old.written new.written
 refused_others refusal cert old new Status.Script h = λ name a b. h.others name b
@@ -77,6 +88,7 @@ refused_others refusal cert old new Status.Memory h = λ name a b. h.written nam
 refused_others refusal cert old new Status.Done h = absurd h
 refused_others refusal cert old new Status.Usage h = absurd h
 refused_others refusal cert old new Status.ReadFault h = absurd h
+refused_others refusal cert old new Status.Rejected h = absurd h
 
 took_others : (r : Request) (old mid new : Seen) (text : List ℕ) → Took r.script old mid text → OnlyWrites mid new → Others r.cert mid.written new.written → LeavesOthers r old new
 took_others r old mid new text took writes others = record {
@@ -99,5 +111,5 @@ leaves_others r old new status h = elim h [
 ]
 
 -- what holds of the request holds of whatever the words ask for
-pub asked_for : (Holds' : Request → Type 0) (r : Request) (o : Option Request) → o ≡ Some r → Holds' r → ((q : Request) → o ≡ Some q → Holds' q)
+pub asked_for : (Holds' : Request → Type 0) (r : Request) (o : Option Command) → o ≡ Some (Command.Solve r) → Holds' r → ((q : Request) → o ≡ Some (Command.Solve q) → Holds' q)
 asked_for Holds' r o e h q f = let same : r ≡ q = cc (e, f) in subst Holds' same h

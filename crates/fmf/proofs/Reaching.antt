@@ -148,3 +148,4 @@ refused_now script cert done rest x refusal t old mid new Status.Memory apart sp
 refused_now script cert done rest x refusal t old mid new Status.Done apart split r on refused h = absurd h
 refused_now script cert done rest x refusal t old mid new Status.Usage apart split r on refused h = absurd h
 refused_now script cert done rest x refusal t old mid new Status.ReadFault apart split r on refused h = absurd h
+refused_now script cert done rest x refusal t old mid new Status.Rejected apart split r on refused h = absurd h

@@ -39,6 +39,7 @@ Claims r old new Status.Memory = ⊤
 Claims r old new Status.WriteFault = ⊤
 Claims r old new Status.ReadFault = ⊤
 Claims r old new Status.Usage = ⊤
+Claims r old new Status.Rejected = ⊥
 
 -- only the script is read, and only the output and the certificate's file are written
 pub record LeavesOthers (r : Request) (old new : Seen) : Type 0 where

@@ -1,5 +1,6 @@
 pub mod Answers
 pub mod Asked
+pub mod Checked
 pub mod Filing
 pub mod Headline
 pub mod Reached

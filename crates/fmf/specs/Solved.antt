@@ -29,6 +29,7 @@ Answered script cert old new Status.Memory = (w : Work script) × Filed cert old
 Answered script cert old new Status.WriteFault = Unopened cert old new ⊎ ((w : Work script) × (block : List ℕ) × (reply : List ℕ) × IsNext w block reply × Cut cert old new (certificate w) w.replies block reply)
 Answered script cert old new Status.Usage = ⊥
 Answered script cert old new Status.ReadFault = ⊥
+Answered script cert old new Status.Rejected = ⊥
 
 -- the whole text was refused
 abbrev pub Refused : Refusal → Seen → Seen → Status → Type 0
@@ -38,6 +39,7 @@ Refused refusal old new Status.Memory = Idle old new
 Refused refusal old new Status.Done = ⊥
 Refused refusal old new Status.Usage = ⊥
 Refused refusal old new Status.ReadFault = ⊥
+Refused refusal old new Status.Rejected = ⊥
 
 -- a text was answered: it reads as items, or is refused, or memory was wanted before anything
 abbrev pub Wrote : Budget → List ℕ → List ℕ → Seen → Seen → Status → Type 0

@@ -9,11 +9,13 @@ exit_code Status.Script = 2
 exit_code Status.ReadFault = 3
 exit_code Status.WriteFault = 4
 exit_code Status.Memory = 5
+exit_code Status.Rejected = 10
 
 abbrev pub fixed_line : Status → Option (List ℕ)
 fixed_line Status.Done = None
 fixed_line Status.Usage = Some (codes "fmf: usage")
 fixed_line Status.Script = None
+fixed_line Status.Rejected = None
 fixed_line Status.ReadFault = Some (codes "fmf: read fault")
 fixed_line Status.WriteFault = Some (codes "fmf: write fault")
 fixed_line Status.Memory = Some (codes "fmf: out of memory")

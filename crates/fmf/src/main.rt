@@ -1,7 +1,7 @@
 //! `fmf`, a finite model finder for SMT-LIB scripts.
 //!
 //! `fmf solve SCRIPT` writes a reply for each `check-sat` to standard output, and the evidence for each to the file
-//! `fmf.cert`.
+//! `fmf.cert`. `fmf check SCRIPT CERT` checks such evidence, whoever made it.
 #![tactic(auto)]
 
 ghost use Rattle.std.specs.Prelude.{◌≡◌};
@@ -9,13 +9,15 @@ ghost use Rattle.std.specs.Process.{exit_status};
 ghost use Rattle.fmf.specs.Statuses.{exit_code};
 
 mod answers;
+mod check;
+mod command;
 mod solve;
 mod status;
 #[cfg(test)]
 mod tests;
 mod words;
 
-use crate::solve::run;
+use crate::command::run;
 use crate::status::Status;
 use fm_files::RealFiles;
 use std::io::ErrorKind;

@@ -1,14 +1,13 @@
-ghost use Rattle.std.specs.Prelude.{◌≡◌, ◌≢◌, ◌↔◌, None, map, String, string_bytes, true};
-ghost use Rattle.fm_files.specs.Seen.{Seen, OnlyWrites, Rose};
-ghost use Rattle.fmf.specs.Asked.{asked as asked_of};
+ghost use Rattle.std.specs.Prelude.{◌≡◌, ◌≢◌};
+ghost use Rattle.fm_files.specs.Seen.{OnlyWrites};
+ghost use Rattle.fmf.specs.Asked.{request_in};
 ghost use Rattle.fmf.specs.Filing.{CountsRose};
-ghost use Rattle.fmf.specs.Headline.{Claims, IsComplete, LeavesOthers};
-ghost use Rattle.fmf.specs.Solved.{Wrote, Solved, at_start as at_start_of, Unchanged, HasCauses};
-ghost use Rattle.fmf.specs.Words.{dash, request_of, IfAsked};
+ghost use Rattle.fmf.specs.Solved.{Wrote, Solved, at_start as at_start_of, HasCauses};
+ghost use Rattle.fmf.specs.Words.{dash};
 
 use crate::answers::{answer_all, refuse};
 use crate::status::Status;
-use crate::words::{Asked, request};
+use crate::words::Request;
 use fm_base::{Fail, Place, Reason, Refusal};
 use fm_files::{Files, ReadError, read_all};
 use fm_session::Budget;
@@ -18,40 +17,22 @@ use std::alloc::Global;
 /// The longest script, in bytes.
 pub const LONGEST_SCRIPT: usize = 16_777_216;
 
-/// Runs the command that the words give, which are the command line without the program's name.
-///
-/// The words are `solve SCRIPT`. The script is read whole, then answered: the replies go to `-` and the evidence to
-/// the file `fmf.cert`, which is made anew. A script that is too long or doesn't read as items is refused, and then
-/// `fmf.cert` isn't touched; else its commands are answered up to `exit` or to the first one that is refused.
-pub fn run<F: Files>(alloc: Global, words: &[String], files: &mut F) -> Status
-    ensures usage { (result ≡ Status.Usage) ↔ (request_of (map (λ w. string_bytes w) words.now) ≡ None) }
-    ensures unused { result ≡ Status.Usage → Unchanged (F.seen files.old) (F.seen files.new) }
-    ensures solved { IfAsked words.now (λ r. Solved r (F.seen files.old) (F.seen files.new) result) }
-    ensures claims { IfAsked words.now (λ r. Claims r (F.seen files.old) (F.seen files.new) result) }
-    ensures complete { IfAsked words.now (λ r. IsComplete r (F.seen files.old) (F.seen files.new) result) }
-    ensures others { IfAsked words.now (λ r. LeavesOthers r (F.seen files.old) (F.seen files.new)) }
-    ensures causes { IfAsked words.now (λ r. HasCauses r (F.seen files.old) (F.seen files.new) result) }
-{
-    match request(words) {
-        Some(asked) => solve(alloc, asked, files),
-        None => Status::Usage,
-    }
-}
-
-// A refusal that stands for the whole text.
-fn at_start(reason: Reason) -> Refusal
+/// A refusal that stands for the whole text.
+pub fn at_start(reason: Reason) -> Refusal
     ensures { result ≡ at_start_of reason }
 {
     let at = Place { line: 1, column: 1 };
     Refusal { reason, at }
 }
 
-// Reads the script and answers it.
-fn solve<F: Files>(alloc: Global, asked: Asked, files: &mut F) -> Status
+/// Reads the script and answers it: the replies go to `-` and the evidence to the certificate's file, which is made anew. A script
+/// that is too long or doesn't read as items is refused, and then that file isn't touched; else its commands are answered up to
+/// `exit` or to the first one that is refused.
+pub fn solve<F: Files>(alloc: Global, asked: Request, files: &mut F) -> Status
     requires apart { asked.cert.now ≢ dash }
     ensures used { result ≢ Status.Usage }
-    ensures solved { Solved (asked_of asked.entry) (F.seen files.old) (F.seen files.new) result }
-    ensures causes { HasCauses (asked_of asked.entry) (F.seen files.old) (F.seen files.new) result }
+    ensures solved { Solved (request_in asked.entry) (F.seen files.old) (F.seen files.new) result }
+    ensures causes { HasCauses (request_in asked.entry) (F.seen files.old) (F.seen files.new) result }
 {
     match read_all(alloc, files, asked.script, LONGEST_SCRIPT) {
         Ok(text) => answer_text(alloc, text.as_slice(), asked.cert, asked.budget, files),

@@ -2,7 +2,8 @@ ghost use Rattle.std.specs.Prelude.{◌≡◌};
 ghost use Rattle.std.specs.Option.{option_map};
 ghost use Rattle.fmf.specs.Statuses.{exit_code, fixed_line};
 
-/// How a run ended. `Memory` is want of memory, the one answer that nothing explains.
+/// How a run ended. `Memory` is want of memory, the one answer that nothing explains; `Rejected` says that a certificate isn't
+/// good.
 #[derive(Clone, Copy, Debug, PartialEq, Eq)]
 pub enum Status {
     Done,
@@ -11,6 +12,7 @@ pub enum Status {
     ReadFault,
     WriteFault,
     Memory,
+    Rejected,
 }
 
 impl Status {
@@ -25,6 +27,7 @@ impl Status {
             Status::ReadFault => 3,
             Status::WriteFault => 4,
             Status::Memory => 5,
+            Status::Rejected => 10,
         }
     }
 
@@ -33,7 +36,7 @@ impl Status {
         ensures { option_map (λ m. m.now) result ≡ fixed_line self }
     {
         match self {
-            Status::Done | Status::Script => None,
+            Status::Done | Status::Script | Status::Rejected => None,
             Status::Usage => Some("fmf: usage"),
             Status::ReadFault => Some("fmf: read fault"),
             Status::WriteFault => Some("fmf: write fault"),

@@ -1,4 +1,4 @@
-use crate::solve::run;
+use crate::command::run;
 use crate::status::Status;
 use fm_files::MemFiles;
 use std::alloc::{AllocError, Global};
@@ -116,13 +116,17 @@ fn answers_scripts(rt: HostRuntime) -> Result<(), Fail> {
             b"fmfcert 1\nb 0\ns 0 0\no z 0\nr 0 +C0,0 1\nq sat 1\nz 1\nd 0\nb 1\ni 1\nq unsat\n".as_slice(),
         ),
     ];
-    for (script, status, reply, cert) in rows {
-        let script = Vec::from_slice(rt.alloc(), script)?;
+    for (text, status, reply, cert) in rows {
+        let script = Vec::from_slice(rt.alloc(), text)?;
         let mut files = files_with(rt.alloc(), script, &[], &[])?;
         let answer = solve_in(rt.alloc(), &mut files)?;
         assert_eq!(rt; answer, status);
         assert_eq!(rt; files.written("-"), reply);
         assert_eq!(rt; files.written("fmf.cert"), cert);
+        if status == Status::Done {
+            let (verdict, _) = checked(rt.alloc(), text, cert)?;
+            assert_eq!(rt; verdict, Status::Done);
+        }
     }
     Ok(())
 }
@@ -152,7 +156,12 @@ fn refuses_long_scripts(rt: HostRuntime) -> Result<(), Fail> {
 
 #[test]
 fn reads_words(rt: HostRuntime) -> Result<(), Fail> {
-    let rows: [(&[&str], Status); 8] = [
+    let rows: [(&[&str], Status); 13] = [
+        (&["check", "s", "s"], Status::Usage),
+        (&["check", "s", "-c"], Status::Usage),
+        (&["check", "s", "c", "d"], Status::Usage),
+        (&["check", "missing", "s"], Status::ReadFault),
+        (&["check", "s", "missing"], Status::ReadFault),
         (&[], Status::Usage),
         (&["solve"], Status::Usage),
         (&["solve", "s", "t"], Status::Usage),
@@ -399,5 +408,161 @@ fn knows_shapes(rt: HostRuntime) -> Result<(), Fail> {
         files.written("-"),
         b"\"b\"\n(error \"6 at 1:73: bad shape\")\n".as_slice()
     );
+    Ok(())
+}
+
+const DISTINCT: &[u8] =
+    b"(declare-sort U 0)(declare-const a U)(declare-const b U)(declare-const c U)(assert (distinct a b c))(check-sat)";
+
+// A certificate for three distinct constants, line by line.
+const DISTINCT_CERT: [&[u8]; 16] = [
+    b"fmfcert 1\n",
+    b"b 0\n",
+    b"t 0\n",
+    b"t 1\n",
+    b"t 2\n",
+    b"i 0\n",
+    b"i 1\n",
+    b"i 2\n",
+    b"c 0 2 0 1 2\n",
+    b"s 2 2\n",
+    b"r 3 +E0,1 0 +E0,2 1 +E1,2 2 -C0,2 4\n",
+    b"q sat 3\n",
+    b"z 3\n",
+    b"d 0\n",
+    b"d 1\n",
+    b"d 2\n",
+];
+
+// That certificate with other text in the place of so many lines from this one on, which are numbered from 1.
+fn changed(alloc: Global, line: usize, count: usize, with: &[u8]) -> Result<Vec<u8>, AllocError> {
+    let mut text = Vec::new(alloc);
+    for (place, own) in DISTINCT_CERT.iter().enumerate() {
+        if place + 1 == line {
+            text.extend_from_slice(with)?;
+        }
+        if place + 1 < line || place + 1 >= line.saturating_add(count) {
+            text.extend_from_slice(own)?;
+        }
+    }
+    if line > DISTINCT_CERT.len() {
+        text.extend_from_slice(with)?;
+    }
+    Ok(text)
+}
+
+// The script `s` and the certificate `c`.
+fn checked(alloc: Global, script: &[u8], cert: &[u8]) -> Result<(Status, MemFiles), Fail> {
+    let mut files = Vec::new(alloc);
+    files.push((
+        String::from_str(alloc, "s")?,
+        Vec::from_slice(alloc, script)?,
+    ))?;
+    files.push((String::from_str(alloc, "c")?, Vec::from_slice(alloc, cert)?))?;
+    let outs = words_of(alloc, &["-"])?;
+    let mut files = MemFiles::new(alloc, files, outs, 4096, Vec::new(alloc), Vec::new(alloc))?;
+    let words = words_of(alloc, &["check", "s", "c"])?;
+    let status = run(alloc, words.as_slice(), &mut files);
+    Ok((status, files))
+}
+
+#[test]
+fn checks_changed_certificates(rt: HostRuntime) -> Result<(), Fail> {
+    let rows: [(usize, usize, &[u8], &[u8]); 22] = [
+        (1, 0, b"", b"block 0 sat 3\naccepted 1 of 1\n"),
+        (2, 99, b"", b"accepted 0 of 1\n"),
+        (9, 1, b"c 0 2 0 1\n", b"rejected line 9 rule c\n"),
+        (11, 1, b"r 3 +E0,1 0\n", b"rejected line 12 rule q\n"),
+        (13, 1, b"z 4\n", b"rejected line 12 rule q\n"),
+        (16, 1, b"d 3\n", b"rejected line 16 rule m\n"),
+        (1, 1, b"", b"rejected line 1 rule text\n"),
+        (12, 99, b"", b"rejected line 12 rule text\n"),
+        (2, 1, b"b 1\n", b"rejected line 2 rule b\n"),
+        (5, 1, b"t 0\n", b"rejected line 5 rule t\n"),
+        (8, 1, b"i 3\n", b"rejected line 8 rule i\n"),
+        (10, 1, b"s 2 1\n", b"rejected line 10 rule s\n"),
+        (10, 1, b"s 3 2\n", b"rejected line 10 rule s\n"),
+        (
+            11,
+            1,
+            b"r 3 +E0,1 1 +E0,2 1 +E1,2 2 -C0,2 4\n",
+            b"rejected line 11 rule r\n",
+        ),
+        (12, 1, b"q unsat\n", b"rejected line 13 rule text\n"),
+        (13, 1, b"z 0\n", b"rejected line 13 rule m\n"),
+        (14, 1, b"", b"rejected line 13 rule m\n"),
+        (14, 1, b"d 00\n", b"rejected line 14 rule text\n"),
+        (17, 0, b"x 0 0\n", b"rejected line 17 rule m\n"),
+        (17, 0, b"b 1\nq unknown 0 0\n", b"rejected line 17 rule b\n"),
+        (16, 1, b"d 2", b"rejected line 16 rule text\n"),
+        (
+            3,
+            99,
+            b"q unknown 5 7\n",
+            b"block 0 unknown 5 7\naccepted 1 of 1\n",
+        ),
+    ];
+    for (line, count, with, reply) in rows {
+        let cert = changed(rt.alloc(), line, count, with)?;
+        let (status, files) = checked(rt.alloc(), DISTINCT, cert.as_slice())?;
+        let good = !reply.starts_with(b"rejected");
+        assert_eq!(rt; status == Status::Done, good);
+        assert_eq!(rt; status == Status::Rejected, !good);
+        assert_eq!(rt; files.written("-"), reply);
+    }
+    Ok(())
+}
+
+#[test]
+fn checks_other_certificates(rt: HostRuntime) -> Result<(), Fail> {
+    let twice =
+        b"(declare-fun p () Bool)(assert p)(check-sat)(assert (not p))(check-sat)(exit)(check-sat)(pop 1)".as_slice();
+    let apart =
+        b"(declare-sort U 0)(declare-const a U)(assert (not (= a a)))(check-sat)".as_slice();
+    let moves =
+        b"(declare-sort U 0)(declare-fun f (U) U)(assert (forall ((x U)) (not (= (f x) x))))(check-sat)".as_slice();
+    let rows = [
+        (
+            twice,
+            b"fmfcert 1\nb 0\nq sat 0\nz\nd 1\nb 1\nt 0\ni 0\ni 1\nr 0 +P0 1\nq unsat\n".as_slice(),
+            Status::Done,
+            b"block 0 sat 0\nblock 1 unsat\naccepted 2 of 2\n".as_slice(),
+        ),
+        (
+            twice,
+            b"fmfcert 1\nb 0\nt 0\ni 0\ni 1\nr 0 +P0 1\nq unsat\n".as_slice(),
+            Status::Rejected,
+            b"rejected line 5 rule i\n".as_slice(),
+        ),
+        (
+            apart,
+            b"fmfcert 1\nb 0\nt 0\ni 0\ne +E0,0 /\nr 0 -E0,0 1\nq unsat\n".as_slice(),
+            Status::Done,
+            b"block 0 unsat\naccepted 1 of 1\n".as_slice(),
+        ),
+        (
+            moves,
+            b"fmfcert 1\nb 0\nt 1\nt 0 0\ni 0 0\nc 0 1 0 1\ns 1 1\nr 1 +E0,1 0 -C0,1 2\nq sat 2\nz 2\nd 0\nx 0 1\n".as_slice(),
+            Status::Done,
+            b"block 0 sat 2\naccepted 1 of 1\n".as_slice(),
+        ),
+        (
+            b"(check-sat)\n(pop 1)".as_slice(),
+            b"no certificate".as_slice(),
+            Status::Script,
+            b"(error \"16 at 2:1: pop below the first level\")\n".as_slice(),
+        ),
+        (
+            b"(declare-sort U 0)\n(assert (and".as_slice(),
+            b"".as_slice(),
+            Status::Script,
+            b"(error \"4 at 2:13: unexpected end\")\n".as_slice(),
+        ),
+    ];
+    for (script, cert, status, reply) in rows {
+        let (answer, files) = checked(rt.alloc(), script, cert)?;
+        assert_eq!(rt; answer, status);
+        assert_eq!(rt; files.written("-"), reply);
+    }
     Ok(())
 }

@@ -1,5 +1,0 @@
-use Rattle.fm_check.proofs.FitLines.{good_lines_are_fit}
-use Rattle.fm_check.proofs.laws.good_lines_are_fit.Goals as goal
-
-pub returns : goal.returns
-returns c = good_lines_are_fit

@@ -1,5 +1,0 @@
-use Rattle.fm_check.proofs.TextFaults.{not_both}
-use Rattle.fm_check.proofs.laws.not_both.Goals as goal
-
-pub returns : goal.returns
-returns c = not_both
