@@ -1,47 +1,21 @@
 -- Loops over the literals of a line `e`.
-use Rattle.std.proofs.Common.{[], ap, append-nil, append_assoc, arith, Bool, drop, false, get_or, inl, inr, length, List, map, None, Option, refl, Some, subst, sym, take, true, ℕ, ◌&&◌, ◌++◌, ◌+◌, ◌<◌, ◌∙◌, ◌∷◌, ◌≡◌, ◌≤◌, ◌⊎◌}
+use Rattle.std.proofs.Common.{[], ap, Bool, length, List, None, Option, refl, Some, subst, sym, true, ℕ, ◌++◌, ◌<◌, ◌∙◌, ◌∷◌, ◌≡◌, ◌⊎◌}
 use Rattle.std.specs.Prelude.{nat_le, nat_lt}
 use Rattle.std.specs.List.{All, list_all}
 use Rattle.std.proofs.lemmas.Bool.{and_from, and_parts, eq-eqb, false≢true, lt-ltb}
-use Rattle.std.proofs.lemmas.List.{drop_all, drop_more}
 use Rattle.fm_base.specs.declared.ids.TermId.{TermId}
 use Rattle.fm_base.specs.declared.signature.Sig.{Sig}
 use Rattle.fm_base.specs.declared.signature.Ty.{Ty}
-use Rattle.fm_bank.specs.Closure.{Clashes, Follows, Shape, object, shapes_of}
+use Rattle.fm_bank.specs.Closure.{Clashes, shapes_of}
 use Rattle.fm_bank.specs.Interning.{are_of_one_sort}
 use Rattle.fm_bank.specs.Terms.{Term, is_type, numbers, type_of}
 use Rattle.fm_bank.specs.declared.atom.Atom.{Atom}
-use Rattle.fm_cert.specs.Lines.{Clause, IsConflict, Joins, JoinsSome, facts_against, is_on_terms, terms_of_atom, terms_of_clause}
+use Rattle.fm_cert.specs.Lines.{Clause, IsConflict, JoinsSome, facts_against, is_on_terms, terms_of_atom, terms_of_clause}
 use Rattle.fm_bank.specs.Subterms.{AreSubterms}
 use Rattle.fm_bank.specs.declared.literal.Literal.{Literal}
 use Rattle.fm_blocks.proofs.OverLaws.{closes_over}
 use Rattle.fm_bank.proofs.Meanings.{typed_within}
 use Rattle.fm_bank.proofs.Walks.{numbers_below}
-
--- no literal so far joins
-abbrev pub NoneJoins : List Shape → List (ℕ × ℕ) → Clause → Type 0
-NoneJoins shapes facts lits = JoinsSome shapes facts lits → ⊥
-
-pub joins_here : (shapes : List Shape) (facts : List (ℕ × ℕ)) (lits : Clause) (i : ℕ) (d : Literal) → i < length lits → Joins shapes facts (get_or lits i d).positive (get_or lits i d).atom → JoinsSome shapes facts lits
-joins_here shapes facts [] i d lt j = absurd (omega (Rattle.std.proofs.Common.arith, lt))
-joins_here shapes facts (l ∷ lits) Rattle.std.proofs.Common.zero d lt j = inl j
-joins_here shapes facts (l ∷ lits) (Rattle.std.proofs.Common.suc i) d lt j = inr (joins_here shapes facts lits i d (omega (Rattle.std.proofs.Common.arith, lt)) j)
-
-pub joins_next : (shapes : List Shape) (facts : List (ℕ × ℕ)) (lits : Clause) (i : ℕ) (d : Literal) → i < length lits → (JoinsSome shapes facts lits → JoinsSome shapes facts (drop i lits)) → (Joins shapes facts (get_or lits i d).positive (get_or lits i d).atom → ⊥) → JoinsSome shapes facts lits → JoinsSome shapes facts (drop (i + 1) lits)
-joins_next shapes facts lits i d lt left refuses j =
-    elim (subst (JoinsSome shapes facts) (drop_more lits i d lt) (left j)) [
-      | inl here ↦ absurd (refuses here)
-      | inr rest ↦ rest
-    ]
-
-pub joins_end : (shapes : List Shape) (facts : List (ℕ × ℕ)) (lits : Clause) (i : ℕ) → length lits ≤ i → (JoinsSome shapes facts lits → JoinsSome shapes facts (drop i lits)) → JoinsSome shapes facts lits → ⊥
-joins_end shapes facts lits i le left j = subst (JoinsSome shapes facts) (drop_all i lits le) (left j)
-
-pub joins_yes : (shapes : List Shape) (facts : List (ℕ × ℕ)) (positive : Bool) (atom : Atom) (a b : TermId) → positive ≡ true → atom ≡ Atom.Equal a b → Follows shapes facts (object a.0) (object b.0) → Joins shapes facts positive atom
-joins_yes shapes facts positive atom a b e is f = subst (λ (x : Bool). Joins shapes facts x atom) (sym e) (subst (λ (x : Atom). Joins shapes facts true x) (sym is) f)
-
-pub yes_joins : (shapes : List Shape) (facts : List (ℕ × ℕ)) (positive : Bool) (atom : Atom) (a b : TermId) → positive ≡ true → atom ≡ Atom.Equal a b → Joins shapes facts positive atom → Follows shapes facts (object a.0) (object b.0)
-yes_joins shapes facts positive atom a b e is j = subst (λ (x : Atom). Joins shapes facts true x) is (subst (λ (x : Bool). Joins shapes facts x atom) e j)
 
 -- the terms of the literals are there
 sort_below : (sig : Sig) (terms : List Term) (a : ℕ) (o u : Option Ty) → type_of sig terms a ≡ o → are_of_one_sort o u ≡ true → a < length terms

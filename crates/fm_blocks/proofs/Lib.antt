@@ -1,3 +1,4 @@
+pub mod Asking
 pub mod BlockFaults
 pub mod ConflictLaws
 pub mod EndingLaws

@@ -1,15 +1,17 @@
-ghost use Rattle.std.specs.Prelude.{◌≡◌, ◌++◌, ℕ, length, map, nat_lt, true, false, IfOk, OnOk};
+ghost use Rattle.std.specs.Prelude.{◌≡◌, ◌++◌, ◌||◌, ℕ, length, map, nat_lt, true, false, IfOk, OnOk};
 ghost use Rattle.std.specs.List.{list_all};
 ghost use Rattle.fm_base.specs.declared.ids.TermId.{TermId as TheTermId};
+ghost use Rattle.fm_bank.specs.Closure.{no, yes};
 ghost use Rattle.fm_bank.specs.Terms.{AreTerms, numbers};
 ghost use Rattle.fm_bank.specs.declared.literal.Literal.{Literal as TheLiteral};
 ghost use Rattle.fm_cert.specs.Lines.{IsConflict, facts_against, falses_against, falses_of, is_on_terms, pairs_against, pairs_of, terms_of_atom, terms_of_clause, trues_against, trues_of};
-ghost use Rattle.fm_blocks.specs.Conflicts.{ClosesOver, JoinsOver, JoinsSomeOver, pair_numbers};
+ghost use Rattle.fm_blocks.specs.Conflicts.{ClosesOver, joins_by, joins_some_by, pair_numbers};
+ghost use Rattle.fm_closure.specs.Asked.{test_of};
 ghost use Rattle.fm_closure.specs.Facts.{facts_in};
 
 use fm_bank::{Atom, Bank, Literal};
 use fm_base::{Memory, TermId};
-use fm_closure::{Equations, clash_in, equal_in};
+use fm_closure::{Closed, Equations};
 use sqlite_items::Items;
 use std::alloc::Global;
 
@@ -155,46 +157,30 @@ fn equations(alloc: Global, lits: &[Literal]) -> Result<Equations, Memory>
 }
 
 // Whether the literal is a positive equality whose sides follow equal.
-fn joins(
-    alloc: Global,
-    bank: &Bank,
-    eqs: &Equations,
-    over: &[TermId],
-    lit: &Literal,
-) -> Result<bool, Memory>
-    requires over { AreTerms bank.now.terms over.now }
-    ensures yes { IfOk result (λ b. b ≡ true → JoinsOver bank.now.terms over.now eqs.now lit.now) }
-    ensures no { IfOk result (λ b. b ≡ false → JoinsOver bank.now.terms over.now eqs.now lit.now → ⊥) }
+fn joins(closed: &Closed, lit: &Literal) -> bool
+    ensures { result ≡ joins_by (test_of closed.now) lit.now.positive lit.now.atom }
 {
-    if !lit.positive {
-        return Ok(false);
-    }
     match lit.atom {
-        Atom::Equal(a, b) => {
-            let found = equal_in(alloc, bank, eqs, over, a, b)?;
-            Ok(found)
-        }
-        _ => Ok(false),
+        Atom::Equal(a, b) => lit.positive && closed.joins(a, b),
+        _ => false,
     }
 }
 
-fn joins_some(
-    alloc: Global,
-    bank: &Bank,
-    eqs: &Equations,
-    over: &[TermId],
-    lits: &[Literal],
-) -> Result<bool, Memory>
-    requires over { AreTerms bank.now.terms over.now }
-    ensures yes { IfOk result (λ b. b ≡ true → JoinsSomeOver bank.now.terms over.now eqs.now lits.now) }
-    ensures no { IfOk result (λ b. b ≡ false → JoinsSomeOver bank.now.terms over.now eqs.now lits.now → ⊥) }
+fn joins_some(closed: &Closed, lits: &[Literal]) -> bool
+    ensures { result ≡ joins_some_by (test_of closed.now) lits.now }
 {
     for lit in lits {
-        if joins(alloc, bank, eqs, over, lit)? {
-            return Ok(true);
+        if joins(closed, lit) {
+            return true;
         }
     }
-    Ok(false)
+    false
+}
+
+fn shows(closed: &Closed, lits: &[Literal]) -> bool
+    ensures { result ≡ (test_of closed.now yes no || joins_some_by (test_of closed.now) lits.now) }
+{
+    closed.clashes() || joins_some(closed, lits)
 }
 
 // Whether the closure shows that the literals can't all be false.
@@ -209,11 +195,8 @@ fn decides(
     ensures yes { IfOk result (λ b. b ≡ true → ClosesOver bank.now.terms over.now eqs.now lits.now) }
     ensures no { IfOk result (λ b. b ≡ false → ClosesOver bank.now.terms over.now eqs.now lits.now → ⊥) }
 {
-    let clashes = clash_in(alloc, bank, eqs, over)?;
-    if clashes {
-        return Ok(true);
-    }
-    let found = joins_some(alloc, bank, eqs, over, lits)?;
+    let closed = Closed::new(alloc, bank, eqs, over)?;
+    let found = shows(&closed, lits);
     Ok(found)
 }
 

@@ -468,7 +468,7 @@ fn checked(alloc: Global, script: &[u8], cert: &[u8]) -> Result<(Status, MemFile
 
 #[test]
 fn checks_changed_certificates(rt: HostRuntime) -> Result<(), Fail> {
-    let rows: [(usize, usize, &[u8], &[u8]); 22] = [
+    let rows: [(usize, usize, &[u8], &[u8]); 23] = [
         (1, 0, b"", b"block 0 sat 3\naccepted 1 of 1\n"),
         (2, 99, b"", b"accepted 0 of 1\n"),
         (9, 1, b"c 0 2 0 1\n", b"rejected line 9 rule c\n"),
@@ -492,6 +492,7 @@ fn checks_changed_certificates(rt: HostRuntime) -> Result<(), Fail> {
         (13, 1, b"z 0\n", b"rejected line 13 rule m\n"),
         (14, 1, b"", b"rejected line 13 rule m\n"),
         (14, 1, b"d 00\n", b"rejected line 14 rule text\n"),
+        (14, 1, b"d 1\n", b"rejected line 12 rule q\n"),
         (17, 0, b"x 0 0\n", b"rejected line 17 rule m\n"),
         (17, 0, b"b 1\nq unknown 0 0\n", b"rejected line 17 rule b\n"),
         (16, 1, b"d 2", b"rejected line 16 rule text\n"),
