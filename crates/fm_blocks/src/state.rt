@@ -25,6 +25,7 @@ pub(crate) struct State {
 }
 
 impl State {
+    /// Nothing is made yet.
     pub fn new(alloc: Global, sig: &Sig) -> Result<State, Memory>
         ensures sig { IfOk result (λ s. s.bank.sig ≡ sig.now) }
         ensures ready { IfOk result (λ s. IsReady s.store) }
@@ -38,7 +39,7 @@ impl State {
         })
     }
 
-    // Takes a line, if it is good.
+    /// Takes a line, if it is good.
     pub fn take(&mut self, table: &[Clause], line: &Line) -> Result<bool, Memory>
         requires ready { IsReady self.old.store }
         ensures good { IfOk result (λ b. b ≡ true → (p : Problem) → IsOver p self.old table.now → Makes p (made_by self.old) line.now (made_by self.new)) }

@@ -60,6 +60,7 @@ fn forget_at(marks: &mut [Mark], place: usize)
 }
 
 impl Marks {
+    /// No marks.
     pub fn new(alloc: Global) -> Marks
         ensures positive { result.positive.items ≡ [] }
         ensures negative { result.negative.items ≡ [] }
@@ -72,7 +73,7 @@ impl Marks {
         }
     }
 
-    // Marks for one more atom.
+    /// Marks for one more atom.
     pub fn grow(&mut self) -> Result<(), AllocError>
         requires clean { IsClean self.old }
         ensures positive { OnOk result (length self.new.positive.items ≡ length self.old.positive.items + 1) }
@@ -210,7 +211,7 @@ impl Marks {
         Ok(found)
     }
 
-    // Puts the literals of a clause into the set.
+    /// Puts the literals of a clause into the set.
     pub fn mark_all(&mut self, lits: &[Lit]) -> Result<(), AllocError>
         requires marks { AllByRecursion (HasMark self.old) lits.now }
         requires covers { Covers self.old }
@@ -224,7 +225,7 @@ impl Marks {
         Ok(())
     }
 
-    // Resolves the set with a clause on a literal, where the literal is in the set and its opposite in the clause.
+    /// Resolves the set with a clause on a literal, where the literal is in the set and its opposite in the clause.
     pub fn resolve(&mut self, lit: Lit, other: &[Lit]) -> Result<bool, AllocError>
         requires mark { HasMark self.old lit }
         requires marks { AllByRecursion (HasMark self.old) other.now }
@@ -242,7 +243,7 @@ impl Marks {
         Ok(found)
     }
 
-    // The literals of the set.
+    /// The literals of the set.
     pub fn members(&self, alloc: Global) -> Result<Vec<Lit>, AllocError>
         ensures { IfOk result (λ v. v.items ≡ members self.now) }
     {
@@ -255,7 +256,7 @@ impl Marks {
         Ok(lits)
     }
 
-    // Takes everything out of the set, in the time of what was put in.
+    /// Takes everything out of the set, in the time of what was put in.
     pub fn clear(&mut self)
         requires covers { Covers self.old }
         ensures clean { IsClean self.new }
