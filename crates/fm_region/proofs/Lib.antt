@@ -19,3 +19,4 @@ pub mod Searching
 pub mod Stages
 pub mod Telling
 pub mod Worked
+pub mod Picked

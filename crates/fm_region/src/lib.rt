@@ -9,6 +9,7 @@ mod growing;
 mod large_tests;
 mod laws;
 mod parts;
+mod picking;
 #[cfg(test)]
 mod plain;
 mod regions;
@@ -19,5 +20,6 @@ mod strong;
 mod tests;
 
 pub use laws::{grown_regions_hold_cliques, regions_hold_cliques};
+pub use picking::{Pick, pick_of};
 pub use regions::{Regions, Weak};
 pub use strong::Strong;

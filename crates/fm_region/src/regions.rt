@@ -190,7 +190,7 @@ fn paired_grown(alloc: Global, source: &Source) -> Result<(Items<Items<usize>>, 
 }
 
 // The same. Where there are at most k classes, each is by itself and the sort fits, whichever are apart.
-fn grown(alloc: Global, source: &Source) -> Result<(Items<Items<usize>>, Strong), Memory>
+pub(crate) fn grown(alloc: Global, source: &Source) -> Result<(Items<Items<usize>>, Strong), Memory>
     requires ascending { IsAscending source.now.terms.items }
     requires below { All (IsPairBelow (length source.now.terms.items)) source.now.pairs.items }
     ensures { IfOk result (λ r. AreGrownFrom (parts source.now) r.0 r.1) }

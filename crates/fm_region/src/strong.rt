@@ -57,7 +57,7 @@ fn large_region(k: usize, parts: &[Part]) -> &[usize]
 }
 
 // The first k + 1 classes of a list, or as many as there are.
-fn front(region: &[usize], k: usize) -> &[usize]
+pub(crate) fn front(region: &[usize], k: usize) -> &[usize]
     ensures { result.now ≡ take (k + 1) region.now }
 {
     if k < region.len() {
