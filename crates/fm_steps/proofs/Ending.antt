@@ -1,5 +1,7 @@
 -- Each step but a decision, an instance and an answer leaves less that can be done, and those take one of the budgets.
-use Rattle.std.proofs.Common.{◌≡◌, ◌+◌, ◌<◌, ◌≤◌, ◌==◌, Bool, true, false, not, cond, List, [], ◌∷◌, ◌++◌, length, inl, inr, refl, sym, ap, subst, ◌∙◌, arith}
+use Rattle.std.proofs.Common.{◌≡◌, ℕ, ◌+◌, ◌<◌, ◌≤◌, ◌==◌, Bool, true, false, not, cond, List, [], ◌∷◌, ◌++◌, length, inl, inr, refl, sym, ap, subst, ◌∙◌, arith}
+use Rattle.std.specs.List.{count_by, filter}
+use Rattle.std.proofs.lemmas.List.Sums.{length-filter}
 use Rattle.std.proofs.lemmas.Bool.{and_parts, not-true, true≢false}
 use Rattle.fm_base.specs.Resolution.{Has}
 use Rattle.fm_base.specs.declared.signature.Sig.{Sig}
@@ -12,13 +14,14 @@ use Rattle.fm_steps.specs.Lemmas.{is_known}
 use Rattle.fm_steps.specs.Lines.{IsSorted, IsWellHeld}
 use Rattle.fm_steps.specs.Menu.{menu_of}
 use Rattle.fm_steps.specs.Picks.{Known}
-use Rattle.fm_steps.specs.Progress.{RunsSpend, StepsLeaveLess, StretchesEnd, are_no_stops, budget_left, is_stop, work_left}
+use Rattle.fm_steps.specs.Progress.{RunsSpend, StepsLeaveLess, StretchesEnd, TurnsAreFew, are_no_stops, budget_left, is_stop, is_turn, turns_left, work_left}
 use Rattle.fm_steps.specs.Rows.{Offer, Row}
 use Rattle.fm_steps.specs.Runs.{IsAnswer, IsReached, Run, Step, carried, event_of}
 use Rattle.fm_steps.specs.State.{Budget, Problem, State}
 use Rattle.fm_steps.proofs.Bounded.{IsBounded}
 use Rattle.fm_steps.proofs.Counts.{Adds, row_adds}
 use Rattle.fm_steps.proofs.Falling.{imply_less, learn_less, lemma_less, raise_less, settled_less, split_less, take_less, turn_less, unit_less}
+use Rattle.fm_steps.proofs.Fresh.{imply_turns, learn_turns, lemma_turns, raise_turns, settled_turns, split_turns, take_turns, turn_turns, unit_turns}
 use Rattle.fm_steps.proofs.Held.{steps_stay_held}
 use Rattle.fm_steps.proofs.InRow.{IsOrdered, offered_in_row, reached_ordered, row_in_row, step_ordered}
 use Rattle.fm_steps.proofs.Known.{row_known}
@@ -63,6 +66,16 @@ row_less p b s k (Offer.Instance i env) t bounded row held q e r = absurd (true�
 row_less p b s k Offer.Raise t bounded row held q e r = raise_less p s bounded row held k t r
 row_less p b s k (Offer.Answer w) t bounded row held q e r = absurd (true≢false e)
 
+-- the present bound is known before the tests are chosen anew
+mid_in_row : (p : Problem) (b : Budget) (s : State) (e : Event) (t : State) → IsOrdered p s → (step : Step p b s e t) → SizesAreInRow p step.move.mid
+mid_in_row p b s e t ordered step =
+    let has = Has-get (menu_of p s step.known) step.place step.offer step.there in
+    let next = offered_in_row p b s step.known step.offer ordered.row ordered.bounded (ap (λ (g : Sig). g.sorts) ordered.sig) has in
+    row_in_row p b s step.known (carried b s step.offer) step.move.mid next ordered.row step.move.row
+
+present_known : (p : Problem) (s : State) → SizesAreInRow p s → is_known s (Atom.Bound s.bound) ≡ true
+present_known p s row = let l = row.least in (row.bounds s.bound).1 (omega (arith, l), omega arith)
+
 step_less : (p : Problem) (b : Budget) (s : State) (e : Event) (t : State) → IsOrdered p s → IsWellHeld p s → Step p b s e t → is_stop e ≡ false → work_left t < work_left s
 step_less p b s e t ordered held step stop =
     let k = step.known in
@@ -70,11 +83,9 @@ step_less p b s e t ordered held step stop =
     let m = step.move in
     let lawful = ordered.bounded.good.lawful in
     let has = Has-get (menu_of p s k) step.place step.offer step.there in
-    let next = offered_in_row p b s k step.offer ordered.row ordered.bounded (ap (λ (g : Sig). g.sorts) ordered.sig) has in
-    let row = row_in_row p b s k o m.mid next ordered.row m.row in
-    let known : is_known m.mid (Atom.Bound m.mid.bound) ≡ true = (let l = row.least in (row.bounds m.mid.bound).1 (omega (arith, l), omega arith)) in
+    let row = mid_in_row p b s e t ordered step in
     let less = row_less p b s k o m.mid ordered.bounded ordered.row held (offered_quiet p b s k step.offer has) (sym (ap is_stop step.event) ∙ stop) m.row in
-    let most = settled_less m.mid t (row_known p b s k o m.mid lawful.atoms lawful.trail m.row) known m.settles in
+    let most = settled_less m.mid t (row_known p b s k o m.mid lawful.atoms lawful.trail m.row) (present_known p m.mid row) m.settles in
     omega (arith, less, most)
 
 pub steps_leave_less : StepsLeaveLess
@@ -91,6 +102,58 @@ stretch_ends p b s (f ∷ fs) t sorted ordered held r e =
 
 pub stretches_end : StretchesEnd
 stretches_end p b events more s t sorted h r e = stretch_ends p b s more t sorted (reached_ordered p b events s h) (runs_stay_held p b events s sorted h) r e
+
+-- Turn and Raise, one of those that can come for each that does
+abbrev turns_in : Event → ℕ
+turns_in e = cond (is_turn e) 1 0
+
+row_turns : (p : Problem) (b : Budget) (s : State) (k : Known) (o : Offer) (t : State) → IsBounded p s → SizesAreInRow p s → is_stop (event_of s o) ≡ false → Row p b s k o t → turns_left t + turns_in (event_of s o) ≤ turns_left s
+row_turns p b s k (Offer.Learn n) t bounded row e r = let h = learn_turns p s bounded row n t r in omega (arith, h)
+row_turns p b s k (Offer.Unit' n) t bounded row e r = let h = unit_turns p s bounded row n t r in omega (arith, h)
+row_turns p b s k (Offer.Take q) t bounded row e r = let h = take_turns p s bounded row q t r in omega (arith, h)
+row_turns p b s k (Offer.Lemma q d) t bounded row e r = let h = lemma_turns p s bounded row k q d t r in omega (arith, h)
+row_turns p b s k (Offer.Imply q d) t bounded row e r = let h = imply_turns p s bounded row k q d t r in omega (arith, h)
+row_turns p b s k Offer.Turn t bounded row e r = let h = turn_turns p s bounded row t r in omega (arith, h)
+row_turns p b s k (Offer.Decide l) t bounded row e r = absurd (true≢false e)
+row_turns p b s k (Offer.Split a c) t bounded row e r = let h = split_turns p s bounded row k a c t r in omega (arith, h)
+row_turns p b s k (Offer.Instance i env) t bounded row e r = absurd (true≢false e)
+row_turns p b s k Offer.Raise t bounded row e r = let h = raise_turns p s bounded row k t r in omega (arith, h)
+row_turns p b s k (Offer.Answer w) t bounded row e r = absurd (true≢false e)
+
+step_turns : (p : Problem) (b : Budget) (s : State) (e : Event) (t : State) → IsOrdered p s → Step p b s e t → is_stop e ≡ false → turns_left t + turns_in e ≤ turns_left s
+step_turns p b s e t ordered step stop =
+    let k = step.known in
+    let o = carried b s step.offer in
+    let m = step.move in
+    let lawful = ordered.bounded.good.lawful in
+    let row = mid_in_row p b s e t ordered step in
+    let here = row_turns p b s k o m.mid ordered.bounded ordered.row (sym (ap is_stop step.event) ∙ stop) m.row in
+    let kept = settled_turns m.mid t (row_known p b s k o m.mid lawful.atoms lawful.trail m.row) (present_known p m.mid row) m.settles in
+    let same = ap turns_in step.event in
+    omega (arith, here, kept, same)
+
+count_first : (e : Event) (es : List Event) → count_by is_turn (e ∷ es) ≡ turns_in e + count_by is_turn es
+count_first e es =
+    let a = length-filter is_turn (e ∷ es) in
+    let b = length-filter is_turn es in
+    let c = first_long (is_turn e) e (filter is_turn es) in
+    omega (arith, a, b, c)
+  where
+    first_long : (b : Bool) (x : Event) (xs : List Event) → length (cond b (x ∷ xs) xs) ≡ cond b 1 0 + length xs
+    first_long true x xs = omega arith
+    first_long false x xs = omega arith
+
+run_turns : (p : Problem) (b : Budget) (s : State) (es : List Event) (t : State) → IsOrdered p s → Run p b s es t → are_no_stops es ≡ true → turns_left t + count_by is_turn es ≤ turns_left s
+run_turns p b s [] t ordered r e = let same = ap turns_left r in let none = length-filter is_turn [] in omega (arith, same, none)
+run_turns p b s (f ∷ fs) t ordered r e =
+    let parts = and_parts (not (is_stop f)) (are_no_stops fs) e in
+    let one = step_turns p b s f r.0 ordered r.1 (not-true (is_stop f) parts.0) in
+    let rest = run_turns p b r.0 fs t (step_ordered p b s f r.0 ordered r.1) r.3 parts.1 in
+    let first = count_first f fs in
+    omega (arith, one, rest, first)
+
+pub turns_are_few : TurnsAreFew
+turns_are_few p b events more s t h r e = run_turns p b s more t (reached_ordered p b events s h) r e
 
 -- what the events take of the budgets
 spends_none : (b : Budget) (s t : State) (e : Event) → instances_in e ≡ 0 → decisions_in e ≡ 0 → Adds s e t → budget_left b t + (instances_in e + decisions_in e) ≡ budget_left b s

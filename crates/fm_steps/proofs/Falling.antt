@@ -1,5 +1,5 @@
 -- Each event but a decision, an instance and an answer leaves less that can be done.
-use Rattle.std.proofs.Common.{◌≡◌, ℕ, zero, suc, ◌+◌, ◌-◌, ◌*◌, ◌<◌, ◌≤◌, Bool, true, false, not, cond, nat_le, List, [], ◌∷◌, ◌++◌, length, map, Some, None, inl, inr, refl, sym, ap, subst, ◌∙◌, arith}
+use Rattle.std.proofs.Common.{◌≡◌, ℕ, suc, ◌+◌, ◌-◌, ◌*◌, ◌<◌, ◌≤◌, Bool, true, false, not, cond, nat_le, List, [], ◌∷◌, ◌++◌, length, map, Some, None, inl, inr, refl, sym, ap, subst, ◌∙◌, arith}
 use Rattle.std.specs.Prelude.{Option, option_and_then, slice_get}
 use Rattle.std.specs.List.{count_by, flat_map, list_any}
 use Rattle.std.proofs.Math.Nat.{suc-mul}
@@ -18,7 +18,7 @@ use Rattle.fm_bank.specs.declared.atom.Atom.{Atom}
 use Rattle.fm_bank.specs.declared.literal.Literal.{Literal}
 use Rattle.fm_bank.proofs.Growing.{atoms_fronts, front-refl}
 use Rattle.fm_bank.proofs.Meanings.{typed_within}
-use Rattle.fm_sat.specs.Learning.{IsAsserting, IsConflict, Steps}
+use Rattle.fm_sat.specs.Learning.{IsAsserting, Steps}
 use Rattle.fm_sat.specs.Store.{HasNoFalse}
 use Rattle.fm_sat.proofs.Endings.{all_false}
 use Rattle.fm_sat.proofs.Explaining.{unit_reason}
@@ -40,10 +40,10 @@ use Rattle.fm_steps.specs.State.{Clause, Pick, Problem, State, back_to, know, pu
 use Rattle.fm_steps.proofs.Bounded.{IsBounded, level_implied}
 use Rattle.fm_steps.proofs.Due.{all_in}
 use Rattle.fm_steps.proofs.Explained.{by_numbers}
-use Rattle.fm_steps.proofs.Fresh.{IsFresh, fresh_imply, fresh_lemma, fresh_settled, fresh_split, fresh_take, fresh_unit, learn_finds, none_any, raise_makes, turn_finds, turns_kept, turns_none, turns_two}
+use Rattle.fm_steps.proofs.Fresh.{imply_turns, learn_turns, lemma_turns, none_any, raise_turns, settled_turns, split_turns, take_turns, turn_turns, unit_turns}
 use Rattle.fm_steps.proofs.Lists.{Has-get, any_last, get_last}
 use Rattle.fm_steps.proofs.Numbers.{all_known, find_kept, get_place, known_any, known_one}
-use Rattle.fm_steps.proofs.Offered.{fails_by_number}
+use Rattle.fm_steps.proofs.Offered.{fails_by_number, there_at}
 use Rattle.fm_steps.proofs.Shown.{number_of_place}
 use Rattle.fm_steps.proofs.Staying.{known_kept}
 use Rattle.fm_steps.proofs.Tallies.{atoms_long, counts_fewer, counts_less, equality_in, known_in}
@@ -149,7 +149,7 @@ settled_less mid t known bound m = subst (λ (u : State). work_left u ≤ work_l
     here =
         let u = grown mid m.picks in
         let f = atoms_fronts (flat_map pick_literals m.picks) mid.held.atoms in
-        let turns = turns_kept mid u known refl (λ free h. subst IsFresh m.after (fresh_settled mid t bound m h)) in
+        let turns : turns_left u ≤ turns_left mid = subst (λ (x : State). turns_left x ≤ turns_left mid) m.after (settled_turns mid t known bound m) in
         let unknown = less_unknown mid u f refl in
         let opens = more_atoms mid u f (λ n e. e) refl in
         let product = mul-le (returns_left u) (return_weight u) (returns_left mid) (return_weight mid) (omega (arith, turns)) (omega arith) in
@@ -176,14 +176,6 @@ module _ (p : Problem) (s : State) (bounded : IsBounded p s) (row : SizesAreInRo
       let m = counts_fewer (is_unvalued t) (is_unvalued s) (atoms_up_to s s.bound) a (open_back s t f back) (known_in p s held row a (Has-get s.held.atoms n a at)) after before in
       subst (λ (xs : List Atom). count_by (is_unvalued t) xs < open_atoms s) (sym same) m
 
-  there_at : (n : ℕ) → n < length s.held.atoms → (a : Atom) × (slice_get s.held.atoms n ≡ Some a)
-  there_at n lt = get_at s.held.atoms n lt
-    where
-      get_at : {X : Type 0} (xs : List X) (n : ℕ) → n < length xs → (x : X) × (slice_get xs n ≡ Some x)
-      get_at [] n lt = absurd (omega (arith, lt))
-      get_at (x ∷ xs) zero lt = (x, refl)
-      get_at (x ∷ xs) (suc n) lt = get_at xs n (omega (arith, lt))
-
   quiet_one : HasNoFalse s.clauses es → quiet s ≡ 1
   quiet_one h =
       let none = none_any (are_false es) s.clauses (λ c has. let at = has_place s.clauses c has in h at.0 c at.1) in
@@ -192,9 +184,9 @@ module _ (p : Problem) (s : State) (bounded : IsBounded p s) (row : SizesAreInRo
   pub unit_less : (n : ℕ) (t : State) → UnitRow s n t → work_left t < work_left s
   unit_less n t r =
       let u = unit_reason s.clauses es n r.lit r.unit in
-      let a = there_at r.lit.atom.0 (known.clauses n u.0.clause r.lit u.0.stored u.0.has) in
+      let a = there_at s.held.atoms r.lit.atom.0 (known.clauses n u.0.clause r.lit u.0.stored u.0.has) in
       let v : State = put r.lit n s in
-      let turns : turns_left v ≤ turns_left s = turns_kept s v known refl (λ free h. subst IsFresh r.after (fresh_unit p s bounded row n t h r)) in
+      let turns : turns_left v ≤ turns_left s = subst (λ (x : State). turns_left x ≤ turns_left s) r.after (unit_turns p s bounded row n t r) in
       let level = level_implied es r.lit n in
       let before = quiet_one r.quiet in
       let opens = open_fewer v a.0 r.lit.atom.0 (implied es r.lit n) refl (front-refl s.held.atoms) refl a.1 refl u.1 in
@@ -206,7 +198,7 @@ module _ (p : Problem) (s : State) (bounded : IsBounded p s) (row : SizesAreInRo
   pub take_less : (e : Reader) (t : State) → TakeRow s e t → work_left t < work_left s
   take_less e t r =
       let v : State = read_one e s in
-      let turns : turns_left v ≤ turns_left s = turns_kept s v known refl (λ free h. subst IsFresh r.after (fresh_take p s bounded row e t h r)) in
+      let turns : turns_left v ≤ turns_left s = subst (λ (x : State). turns_left x ≤ turns_left s) r.after (take_turns p s bounded row e t r) in
       let left = left_read s.trail.heads (length es) e r.left in
       subst (λ (x : State). work_left x < work_left s) (sym r.after)
       (on_less (returns_left s) (returns_left v) (return_weight s) (return_weight v) (steps_left s) (steps_left v) (omega (arith, turns)) refl (omega (arith, left)))
@@ -223,7 +215,7 @@ module _ (p : Problem) (s : State) (bounded : IsBounded p s) (row : SizesAreInRo
   lemma_less k e d t none r =
       let v : State = with_literals r.lits s in
       let f = atoms_fronts r.lits s.held.atoms in
-      let turns : turns_left v ≤ turns_left s = turns_kept s v known refl (λ free h. subst IsFresh r.after (fresh_lemma p s bounded row k e d t free h r)) in
+      let turns : turns_left v ≤ turns_left s = subst (λ (x : State). turns_left x ≤ turns_left s) r.after (lemma_turns p s bounded row k e d t r) in
       let unknown = less_unknown s v f refl in
       let opens = more_atoms s v f (λ n q. q) refl in
       let before = quiet_one none in
@@ -240,7 +232,7 @@ module _ (p : Problem) (s : State) (bounded : IsBounded p s) (row : SizesAreInRo
       let f = atoms_fronts r.lits s.held.atoms in
       let there = known_one s.held.atoms r.lits r.lit r.unit.has r.known in
       let at = get_place s.held.atoms a (known_any s.held.atoms a there) in
-      let turns : turns_left v ≤ turns_left s = turns_kept s v known refl (λ free h. subst IsFresh r.after (fresh_imply p s bounded row k e d t free h r)) in
+      let turns : turns_left v ≤ turns_left s = subst (λ (x : State). turns_left x ≤ turns_left s) r.after (imply_turns p s bounded row k e d t r) in
       let level = level_implied es l (length s.clauses) in
       let unknown = less_unknown s v f refl in
       let opens = open_fewer v a (atom_number s.held.atoms a) (implied es l (length s.clauses)) refl f refl at refl (none_by_number es s.held.atoms a known.trail r.unit.unset) in
@@ -256,7 +248,7 @@ module _ (p : Problem) (s : State) (bounded : IsBounded p s) (row : SizesAreInRo
       let v : State = know x s in
       let ls : List Literal = lit true x ∷ [] in
       let f = atoms_fronts ls s.held.atoms in
-      let turns : turns_left v ≤ turns_left s = turns_kept s v known refl (λ free h. subst IsFresh r.after (fresh_split p s bounded row k a b t h r)) in
+      let turns : turns_left v ≤ turns_left s = subst (λ (x : State). turns_left x ≤ turns_left s) r.after (split_turns p s bounded row k a b t r) in
       let la = typed_within s.held.sig s.held.terms a (Ty.Of (sort r.sort_of)) r.first in
       let lb = typed_within s.held.sig s.held.terms b (Ty.Of (sort r.sort_of)) r.second in
       let after : not (is_known v x) ≡ false = ap not (known_one (with_atoms s.held.atoms ls) ls (lit true x) (inl refl) (all_known ls s.held.atoms)) in
@@ -273,14 +265,10 @@ module _ (p : Problem) (s : State) (bounded : IsBounded p s) (row : SizesAreInRo
   abbrev after_return : List Clause → Lit → ℕ → ℕ → State
   after_return cs l n level = record s { clauses = cs; trail = with_entry (trail_back level s.trail) (implied (up_to level es) l n) }
 
-  turns_learnt : (n : ℕ) (u : State) → IsConflict s.clauses es n → u.free ≡ s.free → turns_left u ≤ turns_left s
-  turns_learnt n u c same = turns_kept s u known same (λ free h. absurd (learn_finds p s bounded row n free h c))
-
-  return_less : (m : ℕ) (cs : List Clause) (lits : Clause) (l : Lit) (n level : ℕ) → IsConflict s.clauses es m → IsAsserting es lits l level → work_left (after_return cs l n level) < work_left s
-  return_less m cs lits l n level c a =
+  return_less : (cs : List Clause) (lits : Clause) (l : Lit) (n level : ℕ) → turns_left (after_return cs l n level) ≤ turns_left s → IsAsserting es lits l level → work_left (after_return cs l n level) < work_left s
+  return_less cs lits l n level turns a =
       let u = after_return cs l n level in
       let back = up_to level es in
-      let turns = turns_learnt m u c refl in
       let most = level_on_most 0 es l levels in
       let lower = a.lower in
       let cut = level_cut 0 level es levels (omega arith) (omega (arith, most, lower)) in
@@ -292,12 +280,12 @@ module _ (p : Problem) (s : State) (bounded : IsBounded p s) (row : SizesAreInRo
       let fewer = left_back s.trail.heads (length es) (length back) (shorter level es) in
       back_less (returns_left s) (returns_left u) (return_weight s) (return_weight u) (steps_left s) (steps_left u) (omega (arith, turns, most, lower, cut, push)) refl (omega (arith, opens, long, calm, left, fewer))
 
-  learnt_less : (n : ℕ) (lits : Clause) (l : Lit) (level : ℕ) (steps : Steps) → IsConflict s.clauses es n → IsAsserting es lits l level → work_left (after_learning n steps lits l level s) < work_left s
-  learnt_less n lits l level [] c a = return_less n s.clauses lits l n level c a
-  learnt_less n lits l level (step ∷ steps) c a = return_less n (s.clauses ++ lits ∷ []) lits l (length s.clauses) level c a
+  learnt_less : (n : ℕ) (lits : Clause) (l : Lit) (level : ℕ) (steps : Steps) → turns_left (after_learning n steps lits l level s) ≤ turns_left s → IsAsserting es lits l level → work_left (after_learning n steps lits l level s) < work_left s
+  learnt_less n lits l level [] turns a = return_less s.clauses lits l n level turns a
+  learnt_less n lits l level (step ∷ steps) turns a = return_less (s.clauses ++ lits ∷ []) lits l (length s.clauses) level turns a
 
   pub learn_less : (n : ℕ) (t : State) → LearnRow s n t → work_left t < work_left s
-  learn_less n t r = subst (λ (u : State). work_left u < work_left s) (sym r.after) (learnt_less n r.lits r.lit r.level r.steps r.conflict r.asserting)
+  learn_less n t r = subst (λ (u : State). work_left u < work_left s) (sym r.after) (learnt_less n r.lits r.lit r.level r.steps (subst (λ (u : State). turns_left u ≤ turns_left s) r.after (learn_turns p s bounded row n t r)) r.asserting)
 
   low_cut : level_of (up_to 0 es) ≡ 0
   low_cut = let c = level_cut 0 0 es levels (omega arith) (omega arith) in omega (arith, c)
@@ -306,20 +294,20 @@ module _ (p : Problem) (s : State) (bounded : IsBounded p s) (row : SizesAreInRo
   turn_less t r =
       let u : State = record (back_to 0 s) { free = true } in
       let back = up_to 0 es in
-      let two = turns_two s known r.bounded (turn_finds p s bounded row r.refuted) in
+      let turns : turns_left u + 1 ≡ turns_left s = subst (λ (x : State). turns_left x + 1 ≡ turns_left s) r.after (turn_turns p s bounded row t r) in
       let cut = low_cut in
       let opens = open_most u in
       let long = atoms_long s s.bound in
       let calm = quiet_most (list_any (are_false u.trail.entries) u.clauses) in
       let fewer = left_back s.trail.heads (length es) (length back) (shorter 0 es) in
       subst (λ (x : State). work_left x < work_left s) (sym r.after)
-      (back_less (returns_left s) (returns_left u) (return_weight s) (return_weight u) (steps_left s) (steps_left u) (omega (arith, two, cut)) refl (omega (arith, opens, long, calm, fewer)))
+      (back_less (returns_left s) (returns_left u) (return_weight s) (return_weight u) (steps_left s) (steps_left u) (omega (arith, turns, cut)) refl (omega (arith, opens, long, calm, fewer)))
 
   pub raise_less : (k : Known) (t : State) → RaiseRow s k t → work_left t < work_left s
   raise_less k t r =
       let u : State = raised s in
       let back = up_to 0 es in
-      let none = turns_none u refl (raise_makes p s bounded row) in
+      let turns : turns_left u + 1 ≡ turns_left s = subst (λ (x : State). turns_left x + 1 ≡ turns_left s) r.after (raise_turns p s bounded row k t r) in
       let one : turns_left s ≡ 1 = ap (λ (b : Bool). cond b 1 (cond (is_fresh s) 0 2)) r.free in
       let cut = low_cut in
       let unknown = less_unknown s u (atoms_fronts (lit true (Atom.Bound (s.bound + 1)) ∷ []) s.held.atoms) refl in
@@ -327,4 +315,4 @@ module _ (p : Problem) (s : State) (bounded : IsBounded p s) (row : SizesAreInRo
       let calm = quiet_most (list_any (are_false u.trail.entries) u.clauses) in
       let fewer = left_back s.trail.heads (length es) (length back) (shorter 0 es) in
       subst (λ (x : State). work_left x < work_left s) (sym r.after)
-      (last_less (returns_left s) (returns_left u) (return_weight s) (return_weight u) (steps_left s) (steps_left u) (omega (arith, none, cut)) (omega (arith, one)) (omega (arith, unknown, opens, calm, fewer)))
+      (last_less (returns_left s) (returns_left u) (return_weight s) (return_weight u) (steps_left s) (steps_left u) (omega (arith, turns, one, cut)) (omega (arith, one)) (omega (arith, unknown, opens, calm, fewer)))

@@ -15,7 +15,7 @@ use Rattle.fm_bank.specs.declared.literal.Literal.{Literal}
 use Rattle.fm_bank.proofs.Atoms.{is_same_atom-refl}
 use Rattle.fm_bank.proofs.Growing.{atoms_fronts, front-refl}
 use Rattle.fm_bank.proofs.Places.{place_new}
-use Rattle.fm_sat.specs.Learning.{IsConflict}
+use Rattle.fm_sat.specs.Learning.{IsConflict, Steps}
 use Rattle.fm_sat.proofs.Explaining.{unit_reason}
 use Rattle.fm_trail.specs.declared.entry.Entry.{Entry}
 use Rattle.fm_trail.specs.Trail.{implied, is_none, is_value, level_of, up_to}
@@ -28,7 +28,7 @@ use Rattle.fm_steps.specs.Lemmas.{Due, FalseOrUnit, IsDue, IsUnitLemma, are_know
 use Rattle.fm_steps.specs.Picks.{Known, Settles, pair_literals, pick_literals}
 use Rattle.fm_steps.specs.Offered.{raised}
 use Rattle.fm_steps.specs.Progress.{has_atom, is_fresh, turns_left}
-use Rattle.fm_steps.specs.Rows.{ImplyRow, LemmaRow, SplitRow, TakeRow, UnitRow}
+use Rattle.fm_steps.specs.Rows.{ImplyRow, LearnRow, LemmaRow, RaiseRow, SplitRow, TakeRow, TurnRow, UnitRow, after_learning}
 use Rattle.fm_steps.specs.Sizes.{card, holds, is_refuted, is_unvalued, lit}
 use Rattle.fm_steps.specs.State.{Clause, Problem, State, know, put, value_by, with_literals}
 use Rattle.fm_steps.proofs.Bounded.{IsBounded, entry_by, first_at, found_at, refuted_false}
@@ -90,7 +90,7 @@ left_step false false true false e h = absurd (false≢true (h refl refl))
 left_step false false false true e h = omega arith
 left_step false false false false e h = omega arith
 
-pub turns_kept : (s t : State) → AtomsAreKnown s → t.free ≡ s.free → (s.free ≡ false → IsFresh s → IsFresh t) → turns_left t ≤ turns_left s
+turns_kept : (s t : State) → AtomsAreKnown s → t.free ≡ s.free → (s.free ≡ false → IsFresh s → IsFresh t) → turns_left t ≤ turns_left s
 turns_kept s t known e h = left_step s.free t.free (is_fresh s) (is_fresh t) e (λ f x. fresh_from t (h f (fresh_parts s known x)))
 
 turn_step : (f x : Bool) → f ≡ false → x ≡ false → ◌≡◌ {A = ℕ} (cond f 1 (cond x 0 2)) 2
@@ -98,14 +98,14 @@ turn_step true x e h = absurd (false≢true (sym e))
 turn_step false true e h = absurd (false≢true (sym h))
 turn_step false false e h = refl
 
-pub turns_two : (s : State) → AtomsAreKnown s → s.free ≡ false → (IsFresh s → ⊥) → turns_left s ≡ 2
+turns_two : (s : State) → AtomsAreKnown s → s.free ≡ false → (IsFresh s → ⊥) → turns_left s ≡ 2
 turns_two s known f h =
     elim (cases_Bool (is_fresh s)) [
       | inl t ↦ absurd (h (fresh_parts s known t))
       | inr e ↦ turn_step s.free (is_fresh s) f e
     ]
 
-pub turns_none : (s : State) → s.free ≡ false → IsFresh s → turns_left s ≡ 0
+turns_none : (s : State) → s.free ≡ false → IsFresh s → turns_left s ≡ 0
 turns_none s f h = ap (λ (b : Bool). cond b 1 (cond (is_fresh s) 0 2)) f ∙ ap (λ (b : Bool). cond b 0 2) (fresh_from s h)
 
 -- one entry more, of another atom
@@ -128,8 +128,11 @@ fresh_on s t e known f unset nowhere =
     }
 
 -- more atoms change nothing
-pub fresh_settled : (mid t : State) → is_known mid (Atom.Bound mid.bound) ≡ true → Settles mid t → IsFresh mid → IsFresh t
+fresh_settled : (mid t : State) → is_known mid (Atom.Bound mid.bound) ≡ true → Settles mid t → IsFresh mid → IsFresh t
 fresh_settled mid t known m h = subst IsFresh (sym m.after) (fresh_on mid (record mid { held = record mid.held { atoms = with_atoms mid.held.atoms (flat_map pick_literals m.picks) }; picks = m.picks }) refl known (atoms_fronts (flat_map pick_literals m.picks) mid.held.atoms) h.unset h.nowhere)
+
+pub settled_turns : (mid t : State) → AtomsAreKnown mid → is_known mid (Atom.Bound mid.bound) ≡ true → Settles mid t → turns_left t ≤ turns_left mid
+settled_turns mid t atoms known m = turns_kept mid t atoms (ap (λ (u : State). u.free) m.after) (λ free h. fresh_settled mid t known m h)
 
 -- a new clause of literals by number
 clause_other : (cs : List Clause) (new : Clause) (n : ℕ) → ((c : Clause) (l : Lit) → Has cs c → Has c l → l.atom.0 ≢ n) → ((l : Lit) → Has new l → l.atom.0 ≢ n) → (c : Clause) (l : Lit) → Has (cs ++ new ∷ []) c → Has c l → l.atom.0 ≢ n
@@ -154,7 +157,7 @@ module _ (p : Problem) (s : State) (bounded : IsBounded p s) (row : SizesAreInRo
   abbrev explained : TrailIsExplained s
   explained = bounded.good.lawful.trail
 
-  pub bound_known : is_known s (Atom.Bound s.bound) ≡ true
+  bound_known : is_known s (Atom.Bound s.bound) ≡ true
   bound_known = let l = row.least in (row.bounds s.bound).1 (omega (arith, l), omega arith)
 
   -- where the bound is fresh no decision stands
@@ -259,38 +262,38 @@ module _ (p : Problem) (s : State) (bounded : IsBounded p s) (row : SizesAreInRo
       literal_other ls known none w.lit w.has (sym number ∙ (ap (λ (x : Lit). x.atom.0) w.is ∙ same))
 
   -- the events that leave it fresh
-  pub fresh_unit : (n : ℕ) (t : State) → IsFresh s → UnitRow s n t → IsFresh t
+  fresh_unit : (n : ℕ) (t : State) → IsFresh s → UnitRow s n t → IsFresh t
   fresh_unit n t h r =
       let u = (unit_reason s.clauses es n r.lit r.unit).0 in
       subst IsFresh (sym r.after) (fresh_on s (put r.lit n s) refl bound_known (front-refl s.held.atoms) (unset_push es (implied es r.lit n) (bound_number s) h.unset (h.nowhere u.clause r.lit (Has-get s.clauses n u.clause u.stored) u.has)) h.nowhere)
 
-  pub fresh_take : (e : Reader) (t : State) → IsFresh s → TakeRow s e t → IsFresh t
+  fresh_take : (e : Reader) (t : State) → IsFresh s → TakeRow s e t → IsFresh t
   fresh_take e t h r = subst IsFresh (sym r.after) (record { unset = h.unset; nowhere = h.nowhere })
 
-  pub fresh_lemma : (k : Known) (e : Reader) (d : Due) (t : State) → s.free ≡ false → IsFresh s → LemmaRow s k e d t → IsFresh t
+  fresh_lemma : (k : Known) (e : Reader) (d : Due) (t : State) → s.free ≡ false → IsFresh s → LemmaRow s k e d t → IsFresh t
   fresh_lemma k e d t free h r =
       let new = lemma_other r.lits r.known (due_other k e d r.lits free h r.due) in
       subst IsFresh (sym r.after) (fresh_on s (with_literals r.lits s) refl bound_known (atoms_fronts r.lits s.held.atoms) h.unset (clause_other s.clauses _ (bound_number s) h.nowhere new))
 
-  pub fresh_imply : (k : Known) (e : Reader) (d : Due) (t : State) → s.free ≡ false → IsFresh s → ImplyRow s k e d t → IsFresh t
+  fresh_imply : (k : Known) (e : Reader) (d : Due) (t : State) → s.free ≡ false → IsFresh s → ImplyRow s k e d t → IsFresh t
   fresh_imply k e d t free h r =
       let none = due_other k e d r.lits free h r.due in
       let l : Lit = lit_in s.held.atoms r.lit in
       let unset = unset_push es (implied es l (length s.clauses)) (bound_number s) h.unset (literal_other r.lits r.known none r.lit r.unit.has) in
       subst IsFresh (sym r.after) (fresh_on s (put l (length s.clauses) (with_literals r.lits s)) refl bound_known (atoms_fronts r.lits s.held.atoms) unset (clause_other s.clauses _ (bound_number s) h.nowhere (lemma_other r.lits r.known none)))
 
-  pub fresh_split : (k : Known) (a c : ℕ) (t : State) → IsFresh s → SplitRow s k a c t → IsFresh t
+  fresh_split : (k : Known) (a c : ℕ) (t : State) → IsFresh s → SplitRow s k a c t → IsFresh t
   fresh_split k a c t h r = subst IsFresh (sym r.after) (fresh_on s (know (equality a c) s) refl bound_known (atoms_fronts (lit true (equality a c) ∷ []) s.held.atoms) h.unset h.nowhere)
 
   -- and those that find it not fresh, or make it so
-  pub learn_finds : (n : ℕ) → s.free ≡ false → IsFresh s → IsConflict s.clauses es n → ⊥
+  learn_finds : (n : ℕ) → s.free ≡ false → IsFresh s → IsConflict s.clauses es n → ⊥
   learn_finds n free h c =
       let above = c.above.2 in
       let most = level_on_most 0 es c.above.0 explained.levels in
       let low = fresh_low free h in
       omega (arith, above, most, low)
 
-  pub turn_finds : is_refuted s (Atom.Bound s.bound) ≡ true → IsFresh s → ⊥
+  turn_finds : is_refuted s (Atom.Bound s.bound) ≡ true → IsFresh s → ⊥
   turn_finds r h =
       let found = found_number s.held.atoms (Atom.Bound s.bound) (known_has s (Atom.Bound s.bound) bound_known) in
       let f = refuted_false s (Atom.Bound s.bound) (bound_number s) explained found r in
@@ -309,7 +312,7 @@ module _ (p : Problem) (s : State) (bounded : IsBounded p s) (row : SizesAreInRo
   next_number : atom_number (with_atom s.held.atoms next) next ≡ length s.held.atoms
   next_number = ap (λ (b : Bool). atom_number (cond b s.held.atoms (s.held.atoms ++ next ∷ [])) next) next_new ∙ place_new (is_same_atom next) s.held.atoms next [] next_new (is_same_atom-refl next)
 
-  pub raise_makes : IsFresh (raised s)
+  raise_makes : IsFresh (raised s)
   raise_makes =
       let known = bounded.good.lawful.atoms in
       let past = none_past (length s.held.atoms) (up_to 0 es) (record { 0 = length s.held.atoms }) (over_back (length s.held.atoms) es 0 explained.levels known.trail) (omega arith) in
@@ -321,3 +324,45 @@ module _ (p : Problem) (s : State) (bounded : IsBounded p s) (row : SizesAreInRo
             let n : l.atom.0 ≡ length s.held.atoms = same ∙ next_number in
             omega (arith, lt, n);
       }
+
+  -- so each event leaves as many of Turn and Raise, less itself
+  abbrev atoms : AtomsAreKnown s
+  atoms = bounded.good.lawful.atoms
+
+  pub unit_turns : (n : ℕ) (t : State) → UnitRow s n t → turns_left t ≤ turns_left s
+  unit_turns n t r = turns_kept s t atoms (ap (λ (u : State). u.free) r.after) (λ free h. fresh_unit n t h r)
+
+  pub take_turns : (e : Reader) (t : State) → TakeRow s e t → turns_left t ≤ turns_left s
+  take_turns e t r = turns_kept s t atoms (ap (λ (u : State). u.free) r.after) (λ free h. fresh_take e t h r)
+
+  pub lemma_turns : (k : Known) (e : Reader) (d : Due) (t : State) → LemmaRow s k e d t → turns_left t ≤ turns_left s
+  lemma_turns k e d t r = turns_kept s t atoms (ap (λ (u : State). u.free) r.after) (λ free h. fresh_lemma k e d t free h r)
+
+  pub imply_turns : (k : Known) (e : Reader) (d : Due) (t : State) → ImplyRow s k e d t → turns_left t ≤ turns_left s
+  imply_turns k e d t r = turns_kept s t atoms (ap (λ (u : State). u.free) r.after) (λ free h. fresh_imply k e d t free h r)
+
+  pub split_turns : (k : Known) (a c : ℕ) (t : State) → SplitRow s k a c t → turns_left t ≤ turns_left s
+  split_turns k a c t r = turns_kept s t atoms (ap (λ (u : State). u.free) r.after) (λ free h. fresh_split k a c t h r)
+
+  learnt_free : (n : ℕ) (lits : Clause) (l : Lit) (level : ℕ) (steps : Steps) → (after_learning n steps lits l level s).free ≡ s.free
+  learnt_free n lits l level [] = refl
+  learnt_free n lits l level (step ∷ steps) = refl
+
+  pub learn_turns : (n : ℕ) (t : State) → LearnRow s n t → turns_left t ≤ turns_left s
+  learn_turns n t r = turns_kept s t atoms (ap (λ (u : State). u.free) r.after ∙ learnt_free n r.lits r.lit r.level r.steps) (λ free h. absurd (learn_finds n free h r.conflict))
+
+  free_one : (u : State) → u.free ≡ true → turns_left u ≡ 1
+  free_one u e = ap (λ (b : Bool). cond b 1 (cond (is_fresh u) 0 2)) e
+
+  pub turn_turns : (t : State) → TurnRow s t → turns_left t + 1 ≡ turns_left s
+  turn_turns t r =
+      let one = free_one t (ap (λ (u : State). u.free) r.after) in
+      let two = turns_two s atoms r.bounded (turn_finds r.refuted) in
+      omega (arith, one, two)
+
+  pub raise_turns : (k : Known) (t : State) → RaiseRow s k t → turns_left t + 1 ≡ turns_left s
+  raise_turns k t r =
+      let one = free_one s r.free in
+      let none = turns_none (raised s) refl raise_makes in
+      let same : turns_left t ≡ turns_left (raised s) = ap turns_left r.after in
+      omega (arith, one, none, same)

@@ -167,7 +167,7 @@ module _ (s : State) (k : Known) (sizes : SizesAreAssumed s) (holding : PicksHol
   nothing_due r d ls h = absurd h
 
 -- the atom at a place, and its number
-there_at : {X : Type 0} (xs : List X) (n : ℕ) → n < length xs → (x : X) × (slice_get xs n ≡ Some x)
+pub there_at : {X : Type 0} (xs : List X) (n : ℕ) → n < length xs → (x : X) × (slice_get xs n ≡ Some x)
 there_at [] n lt = absurd (omega (arith, lt))
 there_at (x ∷ xs) zero lt = (x, refl)
 there_at (x ∷ xs) (suc n) lt = there_at xs n (omega (arith, lt))

@@ -92,7 +92,8 @@ StepsLeaveLess =
     (p : Problem) (b : Budget) (events : List Event) (s : State) (e : Event) (t : State) → IsSorted p → IsReached p b events s → Step p b s e t
     → is_stop e ≡ false → work_left t < work_left s
 
--- so a stretch of a run with such steps alone is no longer than what can be done at its start
+-- so a stretch of a run with such steps alone is no longer than what can be done at its start, and has no more of Turn and
+-- Raise than can come
 abbrev pub are_no_stops : List Event → Bool
 are_no_stops es = list_all (λ (e : Event). not (is_stop e)) es
 
@@ -100,6 +101,16 @@ abbrev pub StretchesEnd : Type 0
 StretchesEnd =
     (p : Problem) (b : Budget) (events more : List Event) (s t : State) → IsSorted p → IsReached p b events s → Run p b s more t
     → are_no_stops more ≡ true → work_left t + length more ≤ work_left s
+
+abbrev pub is_turn : Event → Bool
+is_turn Event.Turn = true
+is_turn Event.Raise = true
+is_turn e = false
+
+abbrev pub TurnsAreFew : Type 0
+TurnsAreFew =
+    (p : Problem) (b : Budget) (events more : List Event) (s t : State) → IsReached p b events s → Run p b s more t → are_no_stops more ≡ true
+    → turns_left t + count_by is_turn more ≤ turns_left s
 
 -- what is left of the two budgets: a decision and an instance take one, and nothing else does
 abbrev pub budget_left : Budget → State → ℕ
