@@ -187,7 +187,7 @@ level_back : (level : ℕ) (es : List Entry) → level_of (up_to level es) ≤ l
 level_back level [] = omega arith
 level_back level (e ∷ es) = level_step (nat_le e.level level) e es (up_to level es) (level_back level es)
 
-level_implied : (es : List Entry) (l : Lit) (n : ℕ) → level_of (es ++ implied es l n ∷ []) ≡ level_of es
+pub level_implied : (es : List Entry) (l : Lit) (n : ℕ) → level_of (es ++ implied es l n ∷ []) ≡ level_of es
 level_implied es l n = let e = level_push es (implied es l n) in omega (arith, e)
 
 -- a level that is open was open, or a decision was made
@@ -429,7 +429,7 @@ first_by n e es (Why.Clause c) q levels lt rec =
     let level = r.4 in
     (suc r.0, r.1, r.2, r.3, omega (arith, level, l, none))
 
-first_at : (n : ℕ) (es : List Entry) → AreLevelled n es → 0 < level_of es → (i : ℕ) × (e : Entry) × (slice_get es i ≡ Some e) × (e.why ≡ Why.Decision) × (e.level ≡ n + 1)
+pub first_at : (n : ℕ) (es : List Entry) → AreLevelled n es → 0 < level_of es → (i : ℕ) × (e : Entry) × (slice_get es i ≡ Some e) × (e.why ≡ Why.Decision) × (e.level ≡ n + 1)
 first_at n [] levels lt = absurd (omega (arith, lt))
 first_at n (e ∷ es) levels lt = first_by n e es e.why refl levels lt (λ q. first_at e.level es levels.1 q)
 

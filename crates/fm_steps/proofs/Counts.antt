@@ -12,9 +12,9 @@ use Rattle.fm_steps.specs.State.{Budget, Clause, Problem, State}
 use Rattle.fm_steps.proofs.Starts.{start_counted}
 
 -- the counts of one event are added
-record Adds (s : State) (e : Event) (t : State) : Type 0 where
-  instances : t.instances ≡ s.instances + instances_in e
-  decisions : t.decisions ≡ s.decisions + decisions_in e
+pub record Adds (s : State) (e : Event) (t : State) : Type 0 where
+  pub instances : t.instances ≡ s.instances + instances_in e
+  pub decisions : t.decisions ≡ s.decisions + decisions_in e
 
 none : (s : State) (e : Event) (t : State) → instances_in e ≡ 0 → decisions_in e ≡ 0 → t.instances ≡ s.instances → t.decisions ≡ s.decisions → Adds s e t
 none s e t i d a b = record { instances = omega (arith, i, a); decisions = omega (arith, d, b) }
@@ -26,7 +26,7 @@ learnt n lits l level (step ∷ steps) s = none s (Event.Learn n) _ refl refl re
 at_same : {u : State} (s : State) (e : Event) (t : State) → t ≡ u → Adds s e u → Adds s e t
 at_same s e t same h = subst (Adds s e) (sym same) h
 
-row_adds : (p : Problem) (b : Budget) (s : State) (k : Known) (o : Offer) (t : State) → Row p b s k o t → Adds s (event_of s o) t
+pub row_adds : (p : Problem) (b : Budget) (s : State) (k : Known) (o : Offer) (t : State) → Row p b s k o t → Adds s (event_of s o) t
 row_adds p b s k (Offer.Learn n) t r = at_same s (Event.Learn n) t r.after (learnt n r.lits r.lit r.level r.steps s)
 row_adds p b s k (Offer.Unit' n) t r = at_same s (Event.Unit n) t r.after (none s _ _ refl refl refl refl)
 row_adds p b s k (Offer.Take e) t r = at_same s (Event.Take e) t r.after (none s _ _ refl refl refl refl)

@@ -129,7 +129,7 @@ DecidesInRow p s o = Unit {0}
 card_parts : (u k v j : ℕ) → card u k ≡ card v j → (u ≡ v) × (k ≡ j)
 card_parts u k v j e = let q : sort u ≡ sort v = cc e in (ap (λ (s : SortId). s.0) q, cc e)
 
-no_bound : (u k j : ℕ) → card u k ≡ Atom.Bound j → ⊥
+pub no_bound : (u k j : ℕ) → card u k ≡ Atom.Bound j → ⊥
 no_bound u k j e = absurd (cc e)
 
 next_row : (s : State) (u k v : ℕ) (atoms : List Atom) (l : Literal) → atoms ≡ with_atoms s.held.atoms (l ∷ []) → l.atom ≡ card u k → ((j : ℕ) → j < k → is_known s (card u j) ≡ true) → k ≤ s.bound → IsInRow s v → (top : ℕ) × (top ≤ s.bound) × ((j : ℕ) → Knows atoms (card v j) ↔ (j ≤ top))
@@ -222,7 +222,7 @@ learnt_row p n lits l level (step ∷ steps) s h = all_same p s (after_learning 
 split_plain : (a c : ℕ) (l : Literal) → Has (lit true (equality a c) ∷ []) l → is_size l.atom ≡ false
 split_plain a c l h = subst (λ (x : Literal). is_size x.atom ≡ false) (only_one (lit true (equality a c)) l h) (equality_ground a c)
 
-row_in_row : (p : Problem) (b : Budget) (s : State) (k : Known) (o : Offer) (t : State) → DecidesInRow p s o → SizesAreInRow p s → Row p b s k o t → SizesAreInRow p t
+pub row_in_row : (p : Problem) (b : Budget) (s : State) (k : Known) (o : Offer) (t : State) → DecidesInRow p s o → SizesAreInRow p s → Row p b s k o t → SizesAreInRow p t
 row_in_row p b s k (Offer.Learn n) t d h r = subst (SizesAreInRow p) (sym r.after) (learnt_row p n r.lits r.lit r.level r.steps s h)
 row_in_row p b s k (Offer.Unit' n) t d h r = same_at p s t r.after refl (sizes_refl s.held.atoms s.held.atoms refl) h
 row_in_row p b s k (Offer.Take e) t d h r = same_at p s t r.after refl (sizes_refl s.held.atoms s.held.atoms refl) h
@@ -237,7 +237,7 @@ row_in_row p b s k Offer.Raise t d h r = raised p s t (ap (λ (u : State). u.bou
 row_in_row p b s k (Offer.Answer w) t d h r = subst (SizesAreInRow p) (sym r.1) h
 
 -- the equalities of cliques are no size atoms
-pairs_plain : (ts : List ℕ) (l : Literal) → Has (pair_literals ts) l → is_size l.atom ≡ false
+pub pairs_plain : (ts : List ℕ) (l : Literal) → Has (pair_literals ts) l → is_size l.atom ≡ false
 pairs_plain [] l h = absurd h
 pairs_plain (t ∷ ts) l h =
     elim (Has-append (map (λ b. lit true (equality t b)) ts) (pair_literals ts) l h) [
@@ -619,7 +619,7 @@ either_row : (p : Problem) (s : State) (b : Bool) (y z : Offer) → DecidesInRow
 either_row p s true y z h g = h
 either_row p s false y z h g = g
 
-offered_in_row : (p : Problem) (b : Budget) (s : State) (k : Known) (o : Offer) → SizesAreInRow p s → IsBounded p s → s.held.sig.sorts ≡ p.sig.sorts → Has (menu_of p s k) o → DecidesInRow p s (carried b s o)
+pub offered_in_row : (p : Problem) (b : Budget) (s : State) (k : Known) (o : Offer) → SizesAreInRow p s → IsBounded p s → s.held.sig.sorts ≡ p.sig.sorts → Has (menu_of p s k) o → DecidesInRow p s (carried b s o)
 offered_in_row p b s k (Offer.Decide l) h bounded sig q =
     let g = quiet_before p s k (Offer.Decide l) (omega arith) q in
     either_row p s (s.decisions == b.decisions) (Offer.Answer Word.Unknown) (Offer.Decide l) tt (decided p s k h bounded sig g.3 g.2 l q)

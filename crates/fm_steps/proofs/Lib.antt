@@ -33,3 +33,8 @@ pub mod Numbered
 pub mod Sounding
 pub mod Typed
 pub mod Adding
+pub mod Tallies
+pub mod Fresh
+pub mod Falling
+pub mod Ending
+pub mod Measured

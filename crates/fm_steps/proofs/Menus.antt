@@ -305,3 +305,7 @@ module _ (p : Problem) (s : State) (k : Known) where
 
   pub at_three : (o : Offer) → kind o ≡ 3 → Has (menu_of p s k) o → Has (first_lemmas s k) o
   at_three o e h = in_group 4 7 (first_lemmas s k) rest_four o late_four (omega (arith, e)) (after_two o (omega (arith, e)) h)
+
+  -- where more than the first group is offered no clause is false
+  pub no_conflict : (o : Offer) → 1 < kind o → Has (menu_of p s k) o → conflicts_here ≡ []
+  no_conflict o more h = (past 1 1 conflicts_here rest_two o (conflicts 0 s.trail.entries s.clauses) more (Has-take 64 (offers_of p s k) o h)).0

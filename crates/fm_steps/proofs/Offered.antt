@@ -98,7 +98,7 @@ some_true None e = absurd (false≢true e)
 some_true (Some true) e = refl
 some_true (Some false) e = absurd (false≢true e)
 
-true_parts : (s : State) (a : Atom) (o : Option ℕ) → find_atom s.held.atoms a ≡ o → is_value (option_and_then (value_by s.trail.entries) o) true ≡ true → (n : ℕ) × (find_atom s.held.atoms a ≡ Some n) × (value_by s.trail.entries n ≡ Some true)
+pub true_parts : (s : State) (a : Atom) (o : Option ℕ) → find_atom s.held.atoms a ≡ o → is_value (option_and_then (value_by s.trail.entries) o) true ≡ true → (n : ℕ) × (find_atom s.held.atoms a ≡ Some n) × (value_by s.trail.entries n ≡ Some true)
 true_parts s a None e h = absurd (false≢true h)
 true_parts s a (Some n) e h = (n, e, some_true (value_by s.trail.entries n) h)
 
@@ -167,7 +167,7 @@ module _ (s : State) (k : Known) (sizes : SizesAreAssumed s) (holding : PicksHol
   nothing_due r d ls h = absurd h
 
 -- the atom at a place, and its number
-there_at : {X : Type 0} (xs : List X) (n : ℕ) → n < length xs → (x : X) × (slice_get xs n ≡ Some x)
+pub there_at : {X : Type 0} (xs : List X) (n : ℕ) → n < length xs → (x : X) × (slice_get xs n ≡ Some x)
 there_at [] n lt = absurd (omega (arith, lt))
 there_at (x ∷ xs) zero lt = (x, refl)
 there_at (x ∷ xs) (suc n) lt = there_at xs n (omega (arith, lt))
@@ -186,7 +186,7 @@ valued_false (Some true) false e f = refl
 valued_false (Some false) true e f = refl
 valued_false (Some false) false e f = absurd (true≢false f)
 
-any_false : {X : Type 0} (p : X → Bool) (xs : List X) (x : X) → list_any p xs ≡ false → Has xs x → p x ≡ false
+pub any_false : {X : Type 0} (p : X → Bool) (xs : List X) (x : X) → list_any p xs ≡ false → Has xs x → p x ≡ false
 any_false p xs x e h =
     elim (cases_Bool (p x)) [
       | inl t ↦ absurd (true≢false (sym (in_any p xs x h t) ∙ e))
@@ -261,7 +261,7 @@ pub raise_is_met : RaiseIsMet
 raise_is_met p b events s k sorted h offered = raise_row p s k (reached_bounded p b events s h) (runs_stay_held p b events s sorted h) (reached_hold p b events s h) offered
 
 -- a lemma that is false or unit is new
-fails_by_number : (s : State) (l : Literal) → literal_fails s l ≡ true → is_false s.trail.entries (lit_in s.held.atoms l) ≡ true
+pub fails_by_number : (s : State) (l : Literal) → literal_fails s l ≡ true → is_false s.trail.entries (lit_in s.held.atoms l) ≡ true
 fails_by_number s l h = value_by_number s.trail.entries s.held.atoms l.atom (not l.positive) h
 
 pub false_new : FalseLemmasAreNew

@@ -38,12 +38,12 @@ behind_same s t e f = record {
 pub behind_trans : (s t u : State) → IsBehind s t → IsBehind t u → IsBehind s u
 behind_trans s t u a b = record { atoms = front-trans s.held.atoms t.held.atoms u.held.atoms a.atoms b.atoms; clauses = front-trans s.clauses t.clauses u.clauses a.clauses b.clauses }
 
-known_kept : (s t : State) (a : Atom) → IsFront s.held.atoms t.held.atoms → is_known s a ≡ true → is_known t a ≡ true
+pub known_kept : (s t : State) (a : Atom) → IsFront s.held.atoms t.held.atoms → is_known s a ≡ true → is_known t a ≡ true
 known_kept s t a f k =
     let w = find_some s.held.atoms a k in
     subst (λ (as' : List Atom). is_some_number (find_atom as' a) ≡ true) f.1 (ap is_some_number (find_kept s.held.atoms f.0 a w.0 w.1))
 
-number_kept : (s t : State) (a : Atom) → IsFront s.held.atoms t.held.atoms → is_known s a ≡ true → atom_number t.held.atoms a ≡ atom_number s.held.atoms a
+pub number_kept : (s t : State) (a : Atom) → IsFront s.held.atoms t.held.atoms → is_known s a ≡ true → atom_number t.held.atoms a ≡ atom_number s.held.atoms a
 number_kept s t a f k = ap (λ (as' : List Atom). atom_number as' a) (sym f.1) ∙ place_kept (is_same_atom a) s.held.atoms f.0 (known_any s.held.atoms a k)
 
 -- what stands in s stands in t

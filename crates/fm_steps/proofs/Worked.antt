@@ -255,53 +255,53 @@ apart_classes = record { congruence = record { same = λ x y. x == y; apart = λ
 abbrev all_read : State → State
 all_read s = record s { trail = record { entries = s.trail.entries; heads = heads_at (length s.trail.entries) } }
 
-abbrev after_units : State
+abbrev pub after_units : State
 after_units = all_read (put (minus 4) 4 (put (minus 3) 3 (put (minus 2) 2 (put (minus 1) 1 next))))
 
 bound_first : menu_of three after_units apart_classes ≡ Offer.Decide (lit true (Atom.Bound 1)) ∷ []
 bound_first = refl
 
-abbrev at_bound : State
+abbrev pub at_bound : State
 at_bound = all_read (put_decision (plus 5) after_units)
 
 size_next : menu_of three at_bound apart_classes ≡ Offer.Decide (lit true (card 0 1)) ∷ []
 size_next = refl
 
 -- two of them are the test of the sort
-abbrev at_one : State
+abbrev pub at_one : State
 at_one = record (all_read (put_decision (plus 6) (know (card 0 1) at_bound))) { picks = Some (record { terms = 0 ∷ (1 ∷ []); pair = None }) ∷ [] }
 
 clique_then : menu_of three at_one apart_classes ≡ Offer.Lemma Reader.Regions (Due.Clique 0) ∷ []
 clique_then = refl
 
-abbrev with_clique : State
+abbrev pub with_clique : State
 with_clique = with_literals (clique_lemma 0 (0 ∷ (1 ∷ []))) at_one
 
 then_learn : menu_of three with_clique apart_classes ≡ Offer.Learn 5 ∷ []
 then_learn = refl
 
-abbrev above_one : State
+abbrev pub above_one : State
 above_one = record (all_read (put (minus 6) 5 (back_to 0 with_clique))) { picks = None ∷ [] }
 
-abbrev at_bound_again : State
+abbrev pub at_bound_again : State
 at_bound_again = all_read (put_decision (plus 5) above_one)
 
 sum_then : menu_of three at_bound_again apart_classes ≡ Offer.Lemma Reader.Sum Due.SumBound ∷ []
 sum_then = refl
 
-abbrev with_sum : State
+abbrev pub with_sum : State
 with_sum = with_literals (sum_literals at_bound_again 0 (1 ∷ [])) at_bound_again
 
 then_learn_again : menu_of three with_sum apart_classes ≡ Offer.Learn 6 ∷ []
 then_learn_again = refl
 
-abbrev above_bound : State
+abbrev pub above_bound : State
 above_bound = all_read (put (minus 5) 6 (back_to 0 with_sum))
 
 turn_then : menu_of three above_bound apart_classes ≡ Offer.Turn ∷ []
 turn_then = refl
 
-abbrev set_free : State
+abbrev pub set_free : State
 set_free = record above_bound { free = true }
 
 raise_then : menu_of three set_free apart_classes ≡ Offer.Raise ∷ []

@@ -8,6 +8,7 @@ pub mod Lemmas
 pub mod Menu
 pub mod Offered
 pub mod Picks
+pub mod Progress
 pub mod Readers
 pub mod Ready
 pub mod Rows

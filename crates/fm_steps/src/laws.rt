@@ -3,6 +3,7 @@ ghost use Rattle.fm_steps.specs.Facts.{AtomsAreKnown, ClausesAreGuarded, HeadsAr
 ghost use Rattle.fm_steps.specs.Grounded.{TestsAreTyped};
 ghost use Rattle.fm_steps.specs.Lines.{BoundsAreWritten, LemmasAreLines, RowsAreWritten, RunsFollow, RunsHaveLines, RunsStayHeld, SettlingWritesNothing, StartIsWritten, StartsHeld, StepsStayHeld};
 ghost use Rattle.fm_steps.specs.Offered.{FalseLemmasAreNew, ImplyIsDue, InstanceFails, LemmaIsDue, PicksHold, RaiseIsMet, SatIsMet, UnitLemmasAreNew};
+ghost use Rattle.fm_steps.specs.Progress.{RunsSpend, StepsLeaveLess, StretchesEnd, TurnsAreFew};
 ghost use Rattle.fm_steps.specs.Readers.{ReadersCloseLevels, ReadersGoBack, ReadersStay};
 ghost use Rattle.fm_steps.specs.Ready.{DecideIsReady, InstanceIsReady, LearnIsReady, RaiseIsReady, SatIsReady, SplitIsReady, TakeIsReady, TurnIsReady, UnitIsReady, UnsatIsReady};
 ghost use Rattle.fm_steps.specs.Soundness.{HoldsInModels, NoneIsRefuted, SumIsReached, ZeroIsTrue};
@@ -174,4 +175,14 @@ pub fn runs_are_sound()
 /// It is a law of the definitions and does nothing.
 pub fn instances_stand()
     ensures { InstancesStand }
+{}
+
+/// Why a search ends. Each step of a run but a decision, an instance and an answer makes less what can still be done before
+/// the next of these, so a stretch of such steps is no longer than that, and has no more of Turn and Raise than can come, which
+/// are two at most; and decisions and instances alone take of the budgets. It is a law of the definitions and does nothing.
+pub fn steps_leave_less()
+    ensures steps { StepsLeaveLess }
+    ensures stretches { StretchesEnd }
+    ensures turns { TurnsAreFew }
+    ensures budgets { RunsSpend }
 {}
