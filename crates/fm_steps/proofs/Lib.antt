@@ -28,6 +28,9 @@ pub mod Staying
 pub mod Bounded
 pub mod InRow
 pub mod Offered
+pub mod Distinct
+pub mod Rising
+pub mod Repeats
 pub mod Shown
 pub mod Numbered
 pub mod Sounding

@@ -19,70 +19,72 @@ use Rattle.fm_steps.specs.State.{Pick, State}
 use Rattle.fm_steps.proofs.Due.{in_all}
 use Rattle.fm_steps.proofs.Lists.{all_from, all_has}
 
-module _ (apart : ℕ → ℕ → Bool) (classes : List ℕ) (k : ℕ) where
-  abbrev IsAmong : List ℕ → Type 0
-  IsAmong r = (x : ℕ) → Has r x → Has classes x
+-- what holds of each class by itself and of joined regions holds of the grown regions
+module _ (P : List ℕ → Type 0) (apart : ℕ → ℕ → Bool) (classes : List ℕ) (k : ℕ) (both : (r s : List ℕ) → P (joined classes r s)) where
+  join_all : (rs : List (List ℕ)) (i j : ℕ) → All P rs → All P (after_join classes rs i j)
+  join_all rs i j h =
+      let one = joined classes (region_at rs i) (region_at rs j) in
+      let set = All-set P rs (min i j) one (both (region_at rs i) (region_at rs j)) h in
+      All-append P _ _ (All-take P (max i j) _ set) (All-drop P (suc (max i j)) _ set)
 
-  abbrev AreAmong : List (List ℕ) → Type 0
-  AreAmong rs = All IsAmong rs
-
-  both_among : (r s : List ℕ) → IsAmong (joined classes r s)
-  both_among r s x h = (in_filter (λ c. is_in r c || is_in s c) x classes h).0
-
-  join_among : (rs : List (List ℕ)) (i j : ℕ) → AreAmong rs → AreAmong (after_join classes rs i j)
-  join_among rs i j h =
-      let both = joined classes (region_at rs i) (region_at rs j) in
-      let set = All-set IsAmong rs (min i j) both (both_among (region_at rs i) (region_at rs j)) h in
-      All-append IsAmong _ _ (All-take IsAmong (max i j) _ set) (All-drop IsAmong (suc (max i j)) _ set)
-
-  meeting : (onward : List (List ℕ) → List (List ℕ)) → ((rs : List (List ℕ)) → AreAmong rs → AreAmong (onward rs)) → (rs : List (List ℕ)) (i : ℕ) (o : Option ℕ) → AreAmong rs → AreAmong (after_meeting classes onward rs i o)
+  meeting : (onward : List (List ℕ) → List (List ℕ)) → ((rs : List (List ℕ)) → All P rs → All P (onward rs)) → (rs : List (List ℕ)) (i : ℕ) (o : Option ℕ) → All P rs → All P (after_meeting classes onward rs i o)
   meeting onward go rs i None h = h
-  meeting onward go rs i (Some j) h = go (after_join classes rs i j) (join_among rs i j h)
+  meeting onward go rs i (Some j) h = go (after_join classes rs i j) (join_all rs i j h)
 
-  opening : (onward : List (List ℕ) → List (List ℕ)) → ((rs : List (List ℕ)) → AreAmong rs → AreAmong (onward rs)) → (rs : List (List ℕ)) (o : Option ℕ) → AreAmong rs → AreAmong (after_opening apart classes onward rs o)
+  opening : (onward : List (List ℕ) → List (List ℕ)) → ((rs : List (List ℕ)) → All P rs → All P (onward rs)) → (rs : List (List ℕ)) (o : Option ℕ) → All P rs → All P (after_opening apart classes onward rs o)
   opening onward go rs None h = h
   opening onward go rs (Some i) h = meeting onward go rs i (first_touching apart rs i) h
 
-  closing : (n : ℕ) (rs : List (List ℕ)) → AreAmong rs → AreAmong (closed_within apart classes k n rs)
+  closing : (n : ℕ) (rs : List (List ℕ)) → All P rs → All P (closed_within apart classes k n rs)
   unfolding closed_within
   closing zero rs h = h
   closing (suc n) rs h = opening (closed_within apart classes k n) (closing n) rs (first_open apart classes k rs) h
 
-  either : (b : Bool) (rs ss : List (List ℕ)) → AreAmong rs → AreAmong ss → AreAmong (cond b rs ss)
+  either : (b : Bool) (rs ss : List (List ℕ)) → All P rs → All P ss → All P (cond b rs ss)
   either true rs ss h g = h
   either false rs ss h g = g
 
-  growing : (n : ℕ) (rs : List (List ℕ)) → AreAmong rs → AreAmong (grown_within apart classes k n rs)
+  growing : (n : ℕ) (rs : List (List ℕ)) → All P rs → All P (grown_within apart classes k n rs)
   unfolding grown_within
   growing zero rs h = h
   growing (suc n) rs h =
       let next = after_join classes rs 0 1 in
-      either (must_grow classes k rs) (grown_within apart classes k n (closed apart classes k next)) rs (growing n (closed apart classes k next) (closing (length next) next (join_among rs 0 1 h))) h
+      either (must_grow classes k rs) (grown_within apart classes k n (closed apart classes k next)) rs (growing n (closed apart classes k next) (closing (length next) next (join_all rs 0 1 h))) h
+
+  large : (b : Bool) (r s : List ℕ) → P r → P s → P (cond b r s)
+  large true r s h g = h
+  large false r s h g = g
+
+  first_all : P [] → (rs : List (List ℕ)) → ((r : List ℕ) → Has rs r → P r) → P (first_large k rs)
+  first_all none [] h = none
+  first_all none (r ∷ rs) h = large (is_large k r) r (first_large k rs) (h r (inl refl)) (first_all none rs (λ s q. h s (inr q)))
+
+  pub first_grown : P [] → All P (map (λ (c : ℕ). c ∷ []) classes) → P (first_large k (grown_regions apart classes k))
+  first_grown none alone =
+      let start = closing (length (map (λ (c : ℕ). c ∷ []) classes)) (map (λ (c : ℕ). c ∷ []) classes) alone in
+      let rs = regions_at apart classes k in
+      let all = growing (length rs) rs start in
+      first_all none (grown_regions apart classes k) (λ r q. all_has P (grown_regions apart classes k) r all q)
+
+module _ (apart : ℕ → ℕ → Bool) (classes : List ℕ) (k : ℕ) where
+  abbrev IsAmong : List ℕ → Type 0
+  IsAmong r = (x : ℕ) → Has r x → Has classes x
+
+  both_among : (r s : List ℕ) → IsAmong (joined classes r s)
+  both_among r s x h = (in_filter (λ c. is_in r c || is_in s c) x classes h).0
 
   of_one : (c x : ℕ) → Has (c ∷ []) x → c ≡ x
   of_one c x (inl e) = e
   of_one c x (inr h) = absurd h
 
-  alone : AreAmong (map (λ c. c ∷ []) classes)
+  alone : All IsAmong (map (λ c. c ∷ []) classes)
   alone = all_from IsAmong (map (λ c. c ∷ []) classes) (λ r q. let m = mapped_has (λ (c : ℕ). c ∷ []) classes r q in subst IsAmong m.is (λ x h. subst (Has classes) (of_one m.lit x h) m.has))
 
-  large : (b : Bool) (r s : List ℕ) → IsAmong r → IsAmong s → IsAmong (cond b r s)
-  large true r s h g = h
-  large false r s h g = g
-
-  first_among : (rs : List (List ℕ)) → ((r : List ℕ) → Has rs r → IsAmong r) → IsAmong (first_large k rs)
-  first_among [] h = λ x q. absurd q
-  first_among (r ∷ rs) h = large (is_large k r) r (first_large k rs) (h r (inl refl)) (first_among rs (λ s q. h s (inr q)))
-
-  among : IsAmong (first_large k (grown_regions apart classes k))
-  among =
-      let start = closing (length (map (λ (c : ℕ). c ∷ []) classes)) (map (λ (c : ℕ). c ∷ []) classes) alone in
-      let rs = regions_at apart classes k in
-      let all = growing (length rs) rs start in
-      first_among (grown_regions apart classes k) (λ r q. all_has IsAmong (grown_regions apart classes k) r all q)
+  pub among : IsAmong (first_large k (grown_regions apart classes k))
+  among = first_grown IsAmong apart classes k both_among (λ x q. absurd q) alone
 
 -- what is chosen of a list is in it
-chosen : (xs ys : List ℕ) → is_sublist xs ys ≡ true → (x : ℕ) → Has xs x → Has ys x
+pub chosen : (xs ys : List ℕ) → is_sublist xs ys ≡ true → (x : ℕ) → Has xs x → Has ys x
 chosen xs ys e x h =
     let same : filter (λ (y : ℕ). list_any (λ z. z == y) xs) ys ≡ xs = (bytes_eq-Decides (filter (λ (y : ℕ). list_any (λ z. z == y) xs) ys) xs).0 e in
     (in_filter (λ (y : ℕ). list_any (λ z. z == y) xs) x ys (subst (λ (zs : List ℕ). Has zs x) (sym same) h)).0
