@@ -31,7 +31,7 @@ use Rattle.fm_rounds.specs.Soundness.{Agree}
 use Rattle.fm_rounds.proofs.Reaching.{all_in, reached_is}
 use Rattle.fm_rounds.proofs.Elements.{application_parts, element_within, one_class, parts_of, reached_value, read_value, same_element, type_is, value_there}
 
-get_in : {X : Type 0} (xs : List X) (n : ℕ) (x : X) → slice_get xs n ≡ Some x → Has xs x
+pub get_in : {X : Type 0} (xs : List X) (n : ℕ) (x : X) → slice_get xs n ≡ Some x → Has xs x
 get_in [] n x e = cc
 get_in (y ∷ ys) zero x e = inl (cc e)
 get_in (y ∷ ys) (suc n) x e = inr (get_in ys n x e)

@@ -1,3 +1,4 @@
+pub mod AddedTrue
 pub mod Alike
 pub mod Candidates
 pub mod Elements
@@ -5,11 +6,14 @@ pub mod FirstFailing
 pub mod Fits
 pub mod Holds
 pub mod LeastTuple
+pub mod Meeting
 pub mod Members
 pub mod Newness
 pub mod Orders
+pub mod ReadAlike
 pub mod Reaching
 pub mod Searches
+pub mod Settling
 pub mod Subterms
 pub mod Tabling
 pub mod Unique

@@ -1,0 +1,5 @@
+use Rattle.fm_rounds.proofs.Meeting.{starts_are_inhabited}
+use Rattle.fm_rounds.proofs.laws.starts_are_inhabited.Goals as goal
+
+pub returns : goal.returns
+returns c = starts_are_inhabited
