@@ -79,7 +79,7 @@ named_are c g (s ∷ ss) (x ∷ xs) sorts h =
     by_place more here k (inr q) = more k q
 
 -- what an instance's literals are about
-abbrev IsGround : Atom → Type 0
+abbrev pub IsGround : Atom → Type 0
 IsGround (Atom.Equal a b) = Unit {0}
 IsGround (Atom.Pred t) = Unit {0}
 IsGround (Atom.Card s k) = ⊥
@@ -106,7 +106,7 @@ before_parts positive None r ls e = absurd (cc e)
 before_parts positive (Some a) None ls e = absurd (cc e)
 before_parts positive (Some a) (Some ms) ls e = (a, ms, refl, refl, sym (cc e))
 
-literals_ground : (terms : List Term) (env : List ℕ) (lits : List Plit) (ls : List Literal) → ground_literals terms env lits ≡ Some ls → (l : Literal) → Has ls l → IsGround l.atom
+pub literals_ground : (terms : List Term) (env : List ℕ) (lits : List Plit) (ls : List Literal) → ground_literals terms env lits ≡ Some ls → (l : Literal) → Has ls l → IsGround l.atom
 literals_ground terms env [] ls e l h = let none : [] ≡ ls = cc e in absurd (subst (λ (xs : List Literal). Has xs l) (sym none) h)
 literals_ground terms env (x ∷ lits) ls e l h =
     let p = before_parts x.positive (ground_atom terms env x.atom) (ground_literals terms env lits) ls e in

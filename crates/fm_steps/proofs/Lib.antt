@@ -36,3 +36,5 @@ pub mod Numbered
 pub mod Sounding
 pub mod Typed
 pub mod Adding
+pub mod Contents
+pub mod Truths

@@ -21,12 +21,12 @@ use Rattle.fm_steps.specs.State.{Clause, Pick, Problem, State}
 use Rattle.fm_steps.proofs.Lists.{Has-append, Has-take, only_one}
 
 -- the group of an offer; a decision may stand in the next one too
-abbrev word_kind : Word → ℕ
+abbrev pub word_kind : Word → ℕ
 word_kind Word.Sat = 7
 word_kind Word.Unsat = 1
 word_kind Word.Unknown = 8
 
-abbrev kind : Offer → ℕ
+abbrev pub kind : Offer → ℕ
 kind (Offer.Learn n) = 1
 kind (Offer.Unit' n) = 2
 kind (Offer.Take r) = 2

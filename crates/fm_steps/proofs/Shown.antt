@@ -74,13 +74,13 @@ more_read : (shapes : List Shape) (l : Literal) (read : List Literal) (x y : ℕ
 more_read shapes l read x y h =
     more_follows shapes (facts_in read) shapes (facts_in (l ∷ read)) (λ z c. c) (λ z c. Has-contains (facts_in (l ∷ read)) z (facts_more (pairs_in true read) (equal_pair true l.positive l.atom) (terms_in true read) (predicate_term true l.positive l.atom) (terms_in false read) (predicate_term false l.positive l.atom) z (contains_has (facts_in read) z c))) x y h
 
-follows_sym : (shapes : List Shape) (facts : List (ℕ × ℕ)) (x y : ℕ) → Follows shapes facts x y → Follows shapes facts y x
+pub follows_sym : (shapes : List Shape) (facts : List (ℕ × ℕ)) (x y : ℕ) → Follows shapes facts x y → Follows shapes facts y x
 follows_sym shapes facts x y h R c = c.symmetric x y (h R c)
 
-follows_trans : (shapes : List Shape) (facts : List (ℕ × ℕ)) (x y z : ℕ) → Follows shapes facts x y → Follows shapes facts y z → Follows shapes facts x z
+pub follows_trans : (shapes : List Shape) (facts : List (ℕ × ℕ)) (x y z : ℕ) → Follows shapes facts x y → Follows shapes facts y z → Follows shapes facts x z
 follows_trans shapes facts x y z h k R c = c.transitive x y z (h R c) (k R c)
 
-fact_follows : (shapes : List Shape) (facts : List (ℕ × ℕ)) (x y : ℕ) → Has facts (x, y) → Follows shapes facts x y
+pub fact_follows : (shapes : List Shape) (facts : List (ℕ × ℕ)) (x y : ℕ) → Has facts (x, y) → Follows shapes facts x y
 fact_follows shapes facts x y h R c = all_has (λ (p : ℕ × ℕ). R p.0 p.1 ≡ true) facts (x, y) c.facts_hold h
 
 -- sides that are apart and joined make a clash

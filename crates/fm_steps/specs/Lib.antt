@@ -12,6 +12,7 @@ pub mod Readers
 pub mod Ready
 pub mod Rows
 pub mod Runs
+pub mod Searchable
 pub mod Sizes
 pub mod Soundness
 pub mod Start

@@ -5,6 +5,7 @@ ghost use Rattle.fm_steps.specs.Lines.{BoundsAreWritten, LemmasAreLines, RowsAre
 ghost use Rattle.fm_steps.specs.Offered.{AreClausesDistinct, FalseLemmasAreNew, ImplyIsDue, InstanceFails, LemmaIsDue, PicksHold, RaiseIsMet, SatIsMet, UnitLemmasAreNew, UnitLemmasAreNewInRuns};
 ghost use Rattle.fm_steps.specs.Readers.{ReadersCloseLevels, ReadersGoBack, ReadersStay};
 ghost use Rattle.fm_steps.specs.Ready.{DecideIsReady, InstanceIsReady, LearnIsReady, RaiseIsReady, SatIsReady, SplitIsReady, TakeIsReady, TurnIsReady, UnitIsReady, UnsatIsReady};
+ghost use Rattle.fm_steps.specs.Searchable.{AddedAreTerms, ContentsAreGrounded, InstanceIsMet, InstancesHold, LastStandsAlone, RunsHaveStartTerms, SearchableAreSorted};
 ghost use Rattle.fm_steps.specs.Soundness.{HoldsInModels, NoneIsRefuted, SumIsReached, ZeroIsTrue};
 ghost use Rattle.fm_steps.specs.Laws.{AnswersEndRuns, EachIsKnown, HasAtStart, HoldsInRuns, IsKeptByMoves, IsKeptBySteps, IsLeftByMoves, RunsAreCounted, WrongEventsEndNoRun};
 
@@ -183,4 +184,22 @@ pub fn clauses_stay_distinct()
     ensures moves { IsKeptByMoves (λ p s. AreClausesDistinct s) }
     ensures runs { HoldsInRuns (λ p s. AreClausesDistinct s) }
     ensures unit_lemma { UnitLemmasAreNewInRuns }
+{}
+
+/// What a run knows of the candidate, where the clauses are as a search asks for: the terms at the start are registered, what
+/// was added is over terms, and what the candidate is made of fits together. It is a law of the definitions and does nothing.
+pub fn contents_are_grounded()
+    ensures sorted { SearchableAreSorted }
+    ensures start { RunsHaveStartTerms }
+    ensures added { AddedAreTerms }
+    ensures grounded { ContentsAreGrounded }
+{}
+
+/// Where groups 1 to 6 of the menu are empty in the bounded phase of a run, the added instances over representatives are true
+/// in the candidate; so an instance that is offered is new, and its row is met where the budget isn't spent. It is a law of the
+/// definitions and does nothing.
+pub fn offered_instances_are_met()
+    ensures alone { LastStandsAlone }
+    ensures added { InstancesHold }
+    ensures instance { InstanceIsMet }
 {}
