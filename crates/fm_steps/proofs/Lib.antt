@@ -38,3 +38,7 @@ pub mod Typed
 pub mod Adding
 pub mod Contents
 pub mod Truths
+pub mod Pigeons
+pub mod Chosen
+pub mod Classes
+pub mod Exact

@@ -84,7 +84,7 @@ pub fact_follows : (shapes : List Shape) (facts : List (ℕ × ℕ)) (x y : ℕ)
 fact_follows shapes facts x y h R c = all_has (λ (p : ℕ × ℕ). R p.0 p.1 ≡ true) facts (x, y) c.facts_hold h
 
 -- sides that are apart and joined make a clash
-apart_clash : (shapes : List Shape) (facts more : List (ℕ × ℕ)) (same : ℕ → ℕ → Bool) (a b : ℕ) → ((x y : ℕ) → Follows shapes facts x y → Follows shapes more x y) → ((x y : ℕ) → Follows shapes more x y → same x y ≡ true) → Follows shapes more (object a) (object b)
+pub apart_clash : (shapes : List Shape) (facts more : List (ℕ × ℕ)) (same : ℕ → ℕ → Bool) (a b : ℕ) → ((x y : ℕ) → Follows shapes facts x y → Follows shapes more x y) → ((x y : ℕ) → Follows shapes more x y → same x y ≡ true) → Follows shapes more (object a) (object b)
     → (ps : List (ℕ × ℕ)) → AreApart shapes facts ps a b → list_any (λ (p : ℕ × ℕ). same (object p.0) (object p.1)) ps ≡ true
 apart_clash shapes facts more same a b on tells ab [] h = absurd h
 apart_clash shapes facts more same a b on tells ab (p ∷ ps) (inl (inl q)) =

@@ -32,9 +32,9 @@ record Rest : Type 0 where
 abbrev rest_of : State → Rest
 rest_of s = record { trail = s.trail; added = s.added; instances = s.instances; decisions = s.decisions; free = s.free; bound = s.bound }
 
-record IsClean (s : State) : Type 0 where
-  atoms : AtomsAreKnown s
-  guards : ClausesAreGuarded s
+pub record IsClean (s : State) : Type 0 where
+  pub atoms : AtomsAreKnown s
+  pub guards : ClausesAreGuarded s
 
 clean_with : (s : State) (ls : List Literal) → AreGuards ls → IsClean s → IsClean (with_literals ls s)
 clean_with s ls g h = record {
@@ -88,7 +88,7 @@ empty_clean p = record {
   guards = λ i c there. absurd (cc there);
 }
 
-first_clean : (p : Problem) → IsClean (first_state p)
+pub first_clean : (p : Problem) → IsClean (first_state p)
 first_clean p =
     let s1 : State = with_ground_clauses p.clauses (empty_state p) in
     let s2 : State = with_elements (range_with_len 0 p.sig.sorts) s1 in

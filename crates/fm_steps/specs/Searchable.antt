@@ -1,11 +1,13 @@
 -- What is asked of clauses that are searched, and what a run then knows of its candidate where only the last group of the menu
 -- is left.
-use Rattle.std.specs.Prelude.{◌≡◌, ℕ, ◌<◌, true, false, List, [], slice_get, Some}
+use Rattle.std.specs.Prelude.{◌≡◌, ℕ, ◌-◌, ◌<◌, ◌≤◌, ◌^◌, true, false, List, [], slice_get, Some}
 use Rattle.std.specs.List.{list_all}
 use Rattle.fm_base.specs.Interpretations.{names_its_sorts, reading_of}
+use Rattle.fm_base.specs.Models.{sum_of_sizes}
 use Rattle.fm_base.specs.Resolution.{Has}
 use Rattle.fm_base.specs.declared.signature.Rank.{Rank}
 use Rattle.fm_bank.specs.Sorted.{is_sorted_clause}
+use Rattle.fm_bank.specs.declared.atom.Atom.{Atom}
 use Rattle.fm_guide.specs.declared.event.Event.{Event}
 use Rattle.fm_guide.specs.declared.event.Word.{Word}
 use Rattle.fm_rounds.specs.Failing.{AreTrueThere}
@@ -17,6 +19,7 @@ use Rattle.fm_steps.specs.Menu.{conflicts_from, decisions_of, first_lemmas, menu
 use Rattle.fm_steps.specs.Picks.{IsKnown, Known}
 use Rattle.fm_steps.specs.Rows.{InstanceRow, Offer, content_at}
 use Rattle.fm_steps.specs.Runs.{IsReached}
+use Rattle.fm_steps.specs.Sizes.{is_refuted}
 use Rattle.fm_steps.specs.State.{Budget, Problem, State}
 
 -- ranks name sorts of the signature, no symbol has a Bool argument, clauses are well sorted, and the last symbols are the fresh
@@ -81,3 +84,20 @@ abbrev pub InstanceIsMet : Type 0
 InstanceIsMet =
     (p : Problem) (b : Budget) (events : List Event) (s : State) (k : Known) (i : ℕ) (subst : List ℕ) → IsSearchable p → IsReached p b events s
     → IsKnown s k → Has (menu_of p s k) (Offer.Instance i subst) → s.instances < b.instances → (t : State) × InstanceRow p b s k i subst t
+
+-- the candidate's sizes don't add up to more than the bound, where groups 1 to 6 are empty
+abbrev pub SumIsWithin : Type 0
+SumIsWithin =
+    (p : Problem) (b : Budget) (events : List Event) (s : State) (k : Known) → IsSearchable p → IsReached p b events s
+    → IsKnown s k → s.free ≡ false → HasLastAlone s k → sum_of_sizes p.sig (candidate_reading (content_at p s k)) ≤ s.bound
+
+-- Where Answer Sat is offered they add up to the bound, in its tables too; and the bound below it is false at level 0.
+pub record IsExact (p : Problem) (s : State) (k : Known) : Type 0 where
+  pub sum : sum_of_sizes p.sig (candidate_reading (content_at p s k)) ≡ s.bound
+  pub tables : sum_of_sizes p.sig (reading_of (candidate (content_at p s k))) ≡ s.bound
+  pub below : 0 < s.bound → is_refuted s (Atom.Bound (s.bound - 1)) ≡ true
+
+abbrev pub SatIsExact : Type 0
+SatIsExact =
+    (p : Problem) (b : Budget) (events : List Event) (s : State) (k : Known) → IsSearchable p → IsReached p b events s
+    → IsKnown s k → s.bound < 2 ^ 64 → Has (menu_of p s k) (Offer.Answer Word.Sat) → IsExact p s k

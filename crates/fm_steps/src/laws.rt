@@ -5,7 +5,7 @@ ghost use Rattle.fm_steps.specs.Lines.{BoundsAreWritten, LemmasAreLines, RowsAre
 ghost use Rattle.fm_steps.specs.Offered.{AreClausesDistinct, FalseLemmasAreNew, ImplyIsDue, InstanceFails, LemmaIsDue, PicksHold, RaiseIsMet, SatIsMet, UnitLemmasAreNew, UnitLemmasAreNewInRuns};
 ghost use Rattle.fm_steps.specs.Readers.{ReadersCloseLevels, ReadersGoBack, ReadersStay};
 ghost use Rattle.fm_steps.specs.Ready.{DecideIsReady, InstanceIsReady, LearnIsReady, RaiseIsReady, SatIsReady, SplitIsReady, TakeIsReady, TurnIsReady, UnitIsReady, UnsatIsReady};
-ghost use Rattle.fm_steps.specs.Searchable.{AddedAreTerms, ContentsAreGrounded, InstanceIsMet, InstancesHold, LastStandsAlone, RunsHaveStartTerms, SearchableAreSorted};
+ghost use Rattle.fm_steps.specs.Searchable.{AddedAreTerms, ContentsAreGrounded, InstanceIsMet, InstancesHold, LastStandsAlone, RunsHaveStartTerms, SatIsExact, SearchableAreSorted, SumIsWithin};
 ghost use Rattle.fm_steps.specs.Soundness.{HoldsInModels, NoneIsRefuted, SumIsReached, ZeroIsTrue};
 ghost use Rattle.fm_steps.specs.Laws.{AnswersEndRuns, EachIsKnown, HasAtStart, HoldsInRuns, IsKeptByMoves, IsKeptBySteps, IsLeftByMoves, RunsAreCounted, WrongEventsEndNoRun};
 
@@ -202,4 +202,12 @@ pub fn offered_instances_are_met()
     ensures alone { LastStandsAlone }
     ensures added { InstancesHold }
     ensures instance { InstanceIsMet }
+{}
+
+/// Where groups 1 to 6 of the menu are empty in the bounded phase of a run, the candidate's sizes don't add up to more than the
+/// bound; and where Answer Sat is offered they add up to it, and the bound below is false at level 0. It is a law of the
+/// definitions and does nothing.
+pub fn sat_is_exact()
+    ensures within { SumIsWithin }
+    ensures exact { SatIsExact }
 {}
