@@ -129,3 +129,12 @@ pick_there s t v (q ∷ ps) h (suc u) lt =
     let z : v + 1 + u ≡ v + suc u = omega arith in
     let r = pick_there s t (v + 1) ps h.1 u (omega (arith, lt)) in
     (r.0, r.1, subst (λ n. IsPickAt t (classes_of s.held t (sort n)) (least_true s n) r.0) z r.2)
+
+pub picks_length : (s : State) (t : Tests) (v : ℕ) (ps : List (Option Pick)) → ArePicks s t v ps → v + length ps ≡ s.held.sig.sorts
+picks_length s t v [] h = omega (arith, h)
+picks_length s t v (q ∷ ps) h = let r = picks_length s t (v + 1) ps h.1 in omega (arith, r)
+
+pub place_below : {X : Type 0} (xs : List X) (i : ℕ) (x : X) → slice_get xs i ≡ Some x → i < length xs
+place_below [] i x e = absurd (cc e)
+place_below (y ∷ ys) zero x e = omega arith
+place_below (y ∷ ys) (suc i) x e = let lt = place_below ys i x e in omega (arith, lt)

@@ -166,7 +166,7 @@ split_part : (b : Bool) (xs : List Offer) → b ≡ false → cond b [] xs ≡ [
 split_part true xs e f = absurd (true≢false e)
 split_part false xs e f = f
 
-ordered_two : (p : ℕ → Bool) (ts : List ℕ) (a b : ℕ) → Ascends ts → filter p ts ≡ a ∷ (b ∷ []) → a < b
+pub ordered_two : (p : ℕ → Bool) (ts : List ℕ) (a b : ℕ) → Ascends ts → filter p ts ≡ a ∷ (b ∷ []) → a < b
 ordered_two p ts a b rises e = (subst Ascends e (filter_rises p ts rises)).0 b (inl refl)
 
 apart_in : (shapes : List Shape) (facts ps : List (ℕ × ℕ)) (x y : ℕ) → Has ps (x, y) → AreApart shapes facts ps x y
@@ -181,7 +181,7 @@ itself_paired false a b = inl refl
 in_order : (a b : ℕ) → a < b → equality a b ≡ Atom.Equal (record { 0 = a }) (record { 0 = b })
 in_order a b lt = ap (λ (c : Bool). cond c (Atom.Equal (record { 0 = a }) (record { 0 = b })) (Atom.Equal (record { 0 = b }) (record { 0 = a }))) (le-leb a b (omega (arith, lt)))
 
-older_apart : (t : Tests) (a b : ℕ) → a < b → is_oldest t b ≡ true → t.same (object a) (object b) ≡ false
+pub older_apart : (t : Tests) (a b : ℕ) → a < b → is_oldest t b ≡ true → t.same (object a) (object b) ≡ false
 older_apart t a b lt e = not-true (t.same (object a) (object b)) (all_in (λ m. not (t.same (object m) (object b))) (range_with_len 0 b) a e (range_in a 0 b (omega arith) (omega (arith, lt))))
 
 abbrev number_of : Atom → ℕ

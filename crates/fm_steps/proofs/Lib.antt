@@ -42,3 +42,5 @@ pub mod Pigeons
 pub mod Chosen
 pub mod Classes
 pub mod Exact
+pub mod Learnt
+pub mod Going

@@ -50,7 +50,7 @@ least_step n (Some k) m e =
       | inr ge ↦ inr (ap Some (omega (arith, ge, e)))
     ]
 
-least_in : (ns : List ℕ) (m : ℕ) → least ns ≡ Some m → Has ns m
+pub least_in : (ns : List ℕ) (m : ℕ) → least ns ≡ Some m → Has ns m
 least_in [] m e = absurd (cc e)
 least_in (n ∷ ns) m e =
     elim (least_step n (least ns) m (cc e)) [

@@ -1,0 +1,27 @@
+-- In a run there is always something to offer, and each offer can be done.
+use Rattle.std.specs.Prelude.{◌≡◌, ◌≤◌, ℕ, List, slice_get, Some}
+use Rattle.fm_base.specs.Resolution.{Has}
+use Rattle.fm_guide.specs.declared.event.Event.{Event}
+use Rattle.fm_steps.specs.Menu.{menu_of}
+use Rattle.fm_steps.specs.Picks.{IsKnown, Known}
+use Rattle.fm_steps.specs.Rows.{Offer, Row}
+use Rattle.fm_steps.specs.Runs.{IsReached, carried}
+use Rattle.fm_steps.specs.Searchable.{IsSearchable}
+use Rattle.fm_steps.specs.State.{Budget, Problem, State}
+
+abbrev pub MenusAreNotEmpty : Type 0
+MenusAreNotEmpty = (p : Problem) (s : State) (k : Known) → (o : Offer) × (slice_get (menu_of p s k) 0 ≡ Some o)
+
+-- no count passes its budget
+pub record IsWithinBudget (b : Budget) (s : State) : Type 0 where
+  pub instances : s.instances ≤ b.instances
+  pub decisions : s.decisions ≤ b.decisions
+
+abbrev pub RunsAreWithinBudget : Type 0
+RunsAreWithinBudget = (p : Problem) (b : Budget) (events : List Event) (s : State) → IsReached p b events s → IsWithinBudget b s
+
+-- the row of what is carried out for an offer is met
+abbrev pub StepsGoOn : Type 0
+StepsGoOn =
+    (p : Problem) (b : Budget) (events : List Event) (s : State) (k : Known) (o : Offer) → IsSearchable p → IsReached p b events s
+    → IsKnown s k → Has (menu_of p s k) o → (t : State) × Row p b s k (carried b s o) t
