@@ -1,17 +1,15 @@
 -- The added instances over representatives are true in the candidate, where the test makes a literal of each true.
-use Rattle.std.proofs.Common.{◌≡◌, ℕ, zero, suc, ◌+◌, ◌<◌, Bool, true, false, ◌&&◌, List, [], ◌∷◌, ◌++◌, length, map, get_or, Option, Some, None, refl, sym, ap, subst, ◌∙◌, arith, inl, inr, append-nil}
+use Rattle.std.proofs.Common.{◌≡◌, ℕ, zero, suc, ◌+◌, ◌<◌, Bool, true, List, [], ◌∷◌, length, map, get_or, Option, Some, None, refl, sym, ap, subst, ◌∙◌, arith, inl, inr, append-nil}
 use Rattle.std.specs.Prelude.{nat_le, nat_lt, slice_get, slice_index}
 use Rattle.std.specs.Option.{option_map}
-use Rattle.std.specs.List.{flat_map, list_all, list_any, range_with_len}
+use Rattle.std.specs.List.{flat_map, list_all, range_with_len}
 use Rattle.std.proofs.lemmas.Bool.{and_parts, cond_both, ltb-true}
 use Rattle.std.proofs.lemmas.Option.{slice_get-map}
-use Rattle.fm_base.specs.Interpretations.{names_its_sorts}
 use Rattle.fm_base.specs.Models.{IsElements}
 use Rattle.fm_base.specs.Resolution.{Has}
 use Rattle.fm_base.specs.declared.ids.SortId.{SortId}
 use Rattle.fm_base.specs.declared.signature.Ty.{Ty}
 use Rattle.fm_base.specs.declared.formula.Patom.{Patom}
-use Rattle.fm_base.specs.declared.formula.Pterm.{Pterm}
 use Rattle.fm_base.proofs.Resolution.{has_mapped}
 use Rattle.fm_bank.specs.Clauses.{lits_true}
 use Rattle.fm_bank.specs.Instances.{application_number, equality, equality_of, ground_atom, ground_literals, literal_before, number_of, predicate_of}
@@ -20,14 +18,13 @@ use Rattle.fm_bank.specs.Sorted.{are_sorted_literals, is_sorted_clause}
 use Rattle.fm_bank.specs.Terms.{Term, is_type, type_of}
 use Rattle.fm_bank.specs.declared.atom.Atom.{Atom}
 use Rattle.fm_bank.specs.declared.clause.Clause.{Clause}
-use Rattle.fm_bank.specs.declared.clause.ClauseSet.{ClauseSet}
 use Rattle.fm_bank.specs.declared.clause.Plit.{Plit}
 use Rattle.fm_bank.specs.declared.literal.Literal.{Literal}
 use Rattle.fm_rounds.specs.Failing.{named_of, rep_in}
-use Rattle.fm_rounds.specs.Grounds.{AreReached, IsGrounded, IsReached, IsReachedTerm, literal_by}
+use Rattle.fm_rounds.specs.Grounds.{AreReached, IsGrounded, IsReached, IsReachedTerm}
 use Rattle.fm_rounds.specs.InstanceTerms.{as_list, clause_terms}
 use Rattle.fm_rounds.specs.Rounds.{Content, candidate_reading, content_of, element_of, literals_at, reached, representatives, reps_of}
-use Rattle.fm_rounds.specs.Soundness.{AddedAreTrue, AllHaveTerms, AreTrueBy, HasTerms, IsSearched}
+use Rattle.fm_rounds.specs.Soundness.{AddedAreTrue, AllHaveTerms, HasTerms}
 use Rattle.fm_rounds.proofs.Candidates.{get_in, instance_truth, rep_element}
 use Rattle.fm_rounds.proofs.Members.{in_filter}
 use Rattle.fm_rounds.proofs.Reaching.{all_in, reached_is}

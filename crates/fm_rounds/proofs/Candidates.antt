@@ -40,7 +40,7 @@ found_step : {X : Type 0} (p : X → Bool) (y k : X) (xs : List X) (b : Bool) �
 found_step p y k xs true e f = inl (cc f, refl)
 found_step p y k xs false e f = inr f
 
-found_in : {X : Type 0} (p : X → Bool) (xs : List X) (k : X) → find p xs ≡ Some k → Has xs k × (p k ≡ true)
+pub found_in : {X : Type 0} (p : X → Bool) (xs : List X) (k : X) → find p xs ≡ Some k → Has xs k × (p k ≡ true)
 found_in p [] k e = cc
 found_in p (y ∷ xs) k e = elim (found_step p y k xs (p y) refl e) [
   | inl (s, t) ↦ (inl s, ap p (sym s) ∙ t)

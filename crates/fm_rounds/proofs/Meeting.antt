@@ -1,8 +1,8 @@
 -- With the fresh constants each sort has a term at the start: the ground terms of the clauses have their numbers among those
 -- at the start.
-use Rattle.std.proofs.Common.{◌≡◌, ℕ, zero, suc, ◌+◌, ◌-◌, ◌<◌, ◌≤◌, ◌⊎◌, Bool, true, false, not, cond, List, [], ◌∷◌, ◌++◌, drop, length, map, Option, Some, None, refl, sym, ap, subst, ◌∙◌, arith, inl, inr}
+use Rattle.std.proofs.Common.{◌≡◌, ℕ, zero, suc, ◌+◌, ◌-◌, ◌<◌, ◌⊎◌, Bool, true, false, not, cond, List, [], ◌∷◌, ◌++◌, drop, length, map, Option, Some, None, refl, sym, ap, subst, ◌∙◌, arith, inl, inr}
 use Rattle.std.specs.Prelude.{slice_get}
-use Rattle.std.specs.List.{filter, flat_map, list_any, range_with_len}
+use Rattle.std.specs.List.{flat_map, list_any, range_with_len}
 use Rattle.std.proofs.lemmas.Bool.{cases_Bool, eq-eqb}
 use Rattle.fm_base.specs.Resolution.{Has}
 use Rattle.fm_base.specs.declared.ids.SymId.{SymId}
@@ -21,7 +21,7 @@ use Rattle.fm_bank.specs.Terms.{Term, find, is_same, is_type, result_type, type_
 use Rattle.fm_bank.specs.declared.clause.Clause.{Clause}
 use Rattle.fm_bank.specs.declared.clause.ClauseSet.{ClauseSet}
 use Rattle.fm_bank.specs.declared.clause.Plit.{Plit}
-use Rattle.fm_bank.proofs.GroundGrowing.{all_ground_fronts, applied_front, ground_atom_fronts, ground_fronts, ground_literals_fronts, ground_of_app, ground_of_var}
+use Rattle.fm_bank.proofs.GroundGrowing.{all_ground_fronts, applied_front, ground_fronts, ground_literals_fronts, ground_of_app, ground_of_var}
 use Rattle.fm_bank.proofs.Growing.{front-refl, front-trans}
 use Rattle.fm_bank.proofs.InstanceTruth.{find_gives}
 use Rattle.fm_bank.proofs.Keys.{is_same-refl}

@@ -5,10 +5,10 @@ use Rattle.std.proofs.lemmas.Bool.{and_from, and_parts, cases_Bool, false≢true
 use Rattle.fm_base.specs.Resolution.{Has}
 use Rattle.fm_bank.specs.Subterms.{is_found as has}
 use Rattle.fm_rounds.specs.Grounds.{IsGrounded}
-use Rattle.fm_rounds.specs.Rounds.{Content, grown, is_new, joins, reached, reached_by, round}
+use Rattle.fm_rounds.specs.Rounds.{Content, is_new, joins, reached, reached_by, round}
 use Rattle.fm_rounds.specs.Soundness.{InstancesAreReached}
 use Rattle.fm_rounds.proofs.Members.{any_in, flat_in, has_in, in_any, in_either, in_flat, in_has, in_left, in_right}
-use Rattle.fm_rounds.proofs.Reaching.{all_in, reached_is, round_is}
+use Rattle.fm_rounds.proofs.Reaching.{round_is}
 
 -- how many pass a test
 count_step : {X : Type 0} (b : Bool) (x : X) (ys : List X) → length (cond b (x ∷ ys) ys) ≡ cond b (suc (length ys)) (length ys)

@@ -1,5 +1,5 @@
 -- The tests of a state are chosen by what it knows itself.
-use Rattle.std.proofs.Common.{◌≡◌, ℕ, zero, suc, ◌+◌, ◌<◌, Bool, true, false, not, cond, List, [], ◌∷◌, ◌++◌, length, map, slice_get, Some, None, inl, inr, refl, sym, ap, subst, ◌∙◌, arith, append-nil}
+use Rattle.std.proofs.Common.{◌≡◌, ℕ, zero, suc, ◌+◌, ◌<◌, Bool, true, false, not, cond, List, [], ◌∷◌, ◌++◌, length, slice_get, Some, inl, inr, refl, sym, ap, subst, ◌∙◌, arith, append-nil}
 use Rattle.std.specs.Prelude.{Option, option_and_then}
 use Rattle.std.specs.Cmp.{both_ways}
 use Rattle.std.specs.List.{filter, flat_map, list_any}
@@ -7,7 +7,7 @@ use Rattle.std.proofs.lemmas.Bool.{true≢false}
 use Rattle.fm_base.specs.Resolution.{Has}
 use Rattle.fm_base.specs.declared.ids.Reader.{Reader}
 use Rattle.fm_bank.specs.Closure.{Shape}
-use Rattle.fm_bank.specs.Interning.{find_atom, is_same_atom, with_atom, with_atoms}
+use Rattle.fm_bank.specs.Interning.{is_same_atom, with_atom, with_atoms}
 use Rattle.fm_bank.specs.Tests.{AreTests, Tests}
 use Rattle.fm_bank.specs.declared.atom.Atom.{Atom}
 use Rattle.fm_bank.specs.declared.literal.Literal.{Literal}
@@ -16,9 +16,8 @@ use Rattle.fm_guide.specs.declared.event.Event.{Event}
 use Rattle.fm_trail.specs.declared.entry.Entry.{Entry}
 use Rattle.fm_trail.specs.Trail.{AreOver, head_of, is_value}
 use Rattle.fm_steps.specs.Content.{AreTestsBy, all_shapes, classes_of, facts_in, is_size, literal_at, literals_of, pairs_in}
-use Rattle.fm_steps.specs.Facts.{AtomsAreKnown}
 use Rattle.fm_steps.specs.Picks.{ArePicks, IsKnown, IsPickAt, Known, Settles, pick_literals, read_literals}
-use Rattle.fm_steps.specs.Runs.{IsReached, IsStart, Run, carried}
+use Rattle.fm_steps.specs.Runs.{IsReached, Run, carried}
 use Rattle.fm_steps.specs.Sizes.{holds, least, least_true, number_in, numbers_with, sort}
 use Rattle.fm_steps.specs.Start.{first_state}
 use Rattle.fm_steps.specs.State.{Budget, Pick, Problem, State, know_all, read_by, value_by}

@@ -1,5 +1,5 @@
 -- A sort has no more representatives than classes.
-use Rattle.std.proofs.Common.{◌≡◌, ℕ, zero, suc, ◌≤◌, ◌<◌, ◌&&◌, Bool, true, false, not, cond, List, [], ◌∷◌, length, inl, inr, refl, sym, ap, subst, ◌∙◌, arith}
+use Rattle.std.proofs.Common.{◌≡◌, ℕ, zero, suc, ◌≤◌, ◌<◌, ◌&&◌, Bool, true, false, not, List, [], ◌∷◌, length, inl, inr, refl, sym, ap, subst, ◌∙◌, arith}
 use Rattle.std.specs.Prelude.{Option}
 use Rattle.std.specs.List.{list_all, range_with_len}
 use Rattle.std.proofs.lemmas.Bool.{and_from, cases_Bool, true≢false}
@@ -8,7 +8,6 @@ use Rattle.fm_base.specs.declared.signature.Sig.{Sig}
 use Rattle.fm_base.specs.declared.signature.Ty.{Ty}
 use Rattle.fm_bank.specs.Closure.{object}
 use Rattle.fm_bank.specs.Terms.{is_type, type_of}
-use Rattle.fm_bank.specs.Tests.{Tests}
 use Rattle.fm_bank.proofs.Meanings.{typed_within}
 use Rattle.fm_rounds.specs.Rounds.{Content, reached, reps_of}
 use Rattle.fm_rounds.proofs.Candidates.{Apart, reps_apart}
@@ -25,7 +24,7 @@ not_all_step : (b c : Bool) → (b && c) ≡ false → b ≡ true → c ≡ fals
 not_all_step true c e t = e
 not_all_step false c e t = absurd (true≢false (sym t))
 
-not_all : {X : Type 0} (p : X → Bool) (xs : List X) → list_all p xs ≡ false → (x : X) × Has xs x × (p x ≡ false)
+pub not_all : {X : Type 0} (p : X → Bool) (xs : List X) → list_all p xs ≡ false → (x : X) × Has xs x × (p x ≡ false)
 not_all p [] e = absurd (true≢false e)
 not_all p (x ∷ xs) e =
     elim (cases_Bool (p x)) [

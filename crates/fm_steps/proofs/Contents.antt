@@ -1,7 +1,7 @@
 -- What the candidate of a run is made of fits together.
-use Rattle.std.proofs.Common.{◌≡◌, ℕ, zero, suc, ◌+◌, ◌-◌, ◌<◌, ◌≤◌, ◌&&◌, Bool, true, false, cond, List, [], ◌∷◌, ◌++◌, drop, length, map, Some, None, inl, inr, refl, sym, ap, subst, ◌∙◌, arith}
+use Rattle.std.proofs.Common.{◌≡◌, ℕ, zero, suc, ◌+◌, ◌-◌, Bool, true, false, cond, List, [], ◌∷◌, ◌++◌, drop, length, map, Some, None, inl, inr, refl, sym, ap, subst, ◌∙◌, arith}
 use Rattle.std.specs.Prelude.{Option, slice_get}
-use Rattle.std.specs.List.{list_all, list_any, range_with_len}
+use Rattle.std.specs.List.{list_any, range_with_len}
 use Rattle.std.proofs.lemmas.Bool.{and_parts, false≢true}
 use Rattle.fm_base.specs.Resolution.{Has}
 use Rattle.fm_base.specs.declared.signature.Rank.{Rank}
@@ -10,23 +10,21 @@ use Rattle.fm_base.specs.declared.signature.Ty.{Ty}
 use Rattle.fm_base.proofs.Resolution.{mapped_has}
 use Rattle.fm_bank.specs.Instances.{types_of}
 use Rattle.fm_bank.specs.Interning.{IsFront, with_term}
-use Rattle.fm_bank.specs.Terms.{Term, are_of_types, are_terms, is_application, is_same, is_term, is_type, type_in, type_of}
-use Rattle.fm_bank.specs.declared.clause.ClauseSet.{ClauseSet}
-use Rattle.fm_bank.proofs.Growing.{front-refl, front-trans, front-with_term}
+use Rattle.fm_bank.specs.Terms.{Term, are_of_types, are_terms, is_application, is_same, is_type, type_in, type_of}
+use Rattle.fm_bank.proofs.Growing.{front-refl, front-trans}
 use Rattle.fm_bank.proofs.Keys.{same_term}
 use Rattle.fm_guide.specs.declared.event.Event.{Event}
-use Rattle.fm_rounds.specs.Fresh.{HasFreshConstants, HasStartTerms, bare_sorts, constant_of}
-use Rattle.fm_rounds.specs.Grounds.{AreTermsOf, ArgumentsIn, IsGrounded}
+use Rattle.fm_rounds.specs.Fresh.{bare_sorts, constant_of}
+use Rattle.fm_rounds.specs.Grounds.{AreTermsOf, ArgumentsIn}
 use Rattle.fm_rounds.specs.InstanceTerms.{clause_terms, clauses_ground_grown, fresh_symbols}
 use Rattle.fm_rounds.specs.Rounds.{Content, literals_at}
 use Rattle.fm_rounds.proofs.Meeting.{starts_are_inhabited}
 use Rattle.fm_rounds.proofs.Members.{any_in, in_left, in_right}
 use Rattle.fm_rounds.proofs.Subterms.{instance_terms_hold, start_terms_hold}
-use Rattle.fm_steps.specs.Grounded.{IsTypedCongruence}
 use Rattle.fm_steps.specs.Lines.{IsSorted, IsWellHeld, is_constant}
-use Rattle.fm_steps.specs.Picks.{IsKnown, Known}
+use Rattle.fm_steps.specs.Picks.{Known}
 use Rattle.fm_steps.specs.Rows.{Offer, content_at}
-use Rattle.fm_steps.specs.Runs.{IsReached, IsStart, Move, Run, carried}
+use Rattle.fm_steps.specs.Runs.{Move, Run, carried}
 use Rattle.fm_steps.specs.Searchable.{AddedAreTerms, ContentsAreGrounded, IsSearchable, RunsHaveStartTerms, SearchableAreSorted}
 use Rattle.fm_steps.specs.Start.{constants_grown, first_terms}
 use Rattle.fm_steps.specs.State.{Budget, Problem, State}

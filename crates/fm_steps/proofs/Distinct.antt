@@ -1,5 +1,5 @@
 -- No clause of the list has a literal twice.
-use Rattle.std.proofs.Common.{◌≡◌, ℕ, zero, suc, ◌+◌, ◌==◌, ◌&&◌, Bool, true, false, cond, List, [], ◌∷◌, ◌++◌, length, map, slice_get, Some, inl, inr, refl, sym, ap, subst, ◌∙◌, arith}
+use Rattle.std.proofs.Common.{◌≡◌, ℕ, zero, suc, ◌+◌, ◌==◌, Bool, true, false, cond, List, [], ◌∷◌, ◌++◌, length, map, slice_get, Some, inl, inr, refl, sym, ap, subst, ◌∙◌, arith}
 use Rattle.std.specs.List.{list_all, list_any, range_with_len}
 use Rattle.std.proofs.lemmas.Bool.{and_from, and_parts, true≢false}
 use mathlib.Core.Bool.{beq}
@@ -14,10 +14,9 @@ use Rattle.fm_bank.proofs.Atoms.{is_same_atom-refl}
 use Rattle.fm_guide.specs.declared.event.Event.{Event}
 use Rattle.fm_rounds.proofs.Members.{in_any, in_range}
 use Rattle.fm_sat.specs.Learning.{Steps}
-use Rattle.fm_steps.specs.Facts.{AtomsAreKnown}
 use Rattle.fm_steps.specs.Lemmas.{is_some_number}
 use Rattle.fm_steps.specs.Offered.{AreClausesDistinct, UnitLemmasAreNewInRuns}
-use Rattle.fm_steps.specs.Picks.{Known, Settles}
+use Rattle.fm_steps.specs.Picks.{Known}
 use Rattle.fm_steps.specs.Rows.{Offer, Row, after_learning, instance_literals}
 use Rattle.fm_steps.specs.Runs.{IsReached, IsStart, Move, Run, carried}
 use Rattle.fm_steps.specs.Sizes.{card, lit}

@@ -1,6 +1,6 @@
 -- Where groups 1 to 6 of the menu are empty the candidate's sizes add up to at most the bound; and where Answer Sat is offered
 -- they add up to it.
-use Rattle.std.proofs.Common.{◌≡◌, ℕ, zero, suc, ◌+◌, ◌-◌, ◌<◌, ◌≤◌, ◌⊎◌, ◌==◌, ◌&&◌, Bool, true, false, not, cond, nat_le, nat_lt, List, [], ◌∷◌, ◌++◌, get_or, length, map, take, Some, None, inl, inr, refl, sym, ap, subst, ◌∙◌, arith}
+use Rattle.std.proofs.Common.{◌≡◌, ℕ, zero, suc, ◌+◌, ◌-◌, ◌<◌, ◌≤◌, ◌⊎◌, ◌==◌, ◌&&◌, Bool, true, false, not, cond, nat_lt, List, [], ◌∷◌, get_or, length, map, take, Some, None, inl, inr, refl, sym, ap, subst, ◌∙◌, arith}
 use Rattle.std.specs.Prelude.{Option, slice_get}
 use Rattle.std.specs.List.{filter, flat_map, list_all, list_any, position_or_len, range_with_len}
 use Rattle.std.proofs.lemmas.Bool.{and_parts, cases_Bool, cases_lt, false≢true, le-leb, ltb-false, not-true, or_right, true≢false}
@@ -20,7 +20,6 @@ use Rattle.fm_bank.specs.Tests.{Tests}
 use Rattle.fm_bank.specs.declared.atom.Atom.{Atom}
 use Rattle.fm_bank.specs.declared.literal.Literal.{Literal}
 use Rattle.fm_bank.proofs.Atoms.{is_same_atom-refl, same_atom}
-use Rattle.fm_guide.specs.declared.event.Event.{Event}
 use Rattle.fm_guide.specs.declared.event.Word.{Word}
 use Rattle.fm_rounds.specs.Rounds.{Content, candidate_reading, reps_of}
 use Rattle.fm_rounds.proofs.Candidates.{candidate_interprets}
@@ -28,24 +27,23 @@ use Rattle.fm_rounds.proofs.Members.{filter_in, flat_in, in_filter, in_left, in_
 use Rattle.fm_rounds.proofs.ReadAlike.{tables_read_alike}
 use Rattle.fm_trail.specs.declared.entry.Entry.{Entry}
 use Rattle.fm_trail.specs.Trail.{is_none, is_value}
-use Rattle.fm_steps.specs.Bounds.{BoundIsDecided, SizesAreInRow}
+use Rattle.fm_steps.specs.Bounds.{BoundIsDecided}
 use Rattle.fm_steps.specs.Content.{AreTestsBy, all_shapes, classes_of, decides, equal_pair, facts_in, ground_literals_of, is_oldest, is_size, is_term_of_sort, literals_of, pairs_in}
 use Rattle.fm_steps.specs.Facts.{PicksAreKnown}
-use Rattle.fm_steps.specs.Lemmas.{Due, bounds_from, is_known, is_sum_due, literal_fails, sum_literals, total_above}
-use Rattle.fm_steps.specs.Lines.{Certified, IsSorted, IsWellHeld}
+use Rattle.fm_steps.specs.Lemmas.{Due, bounds_from, is_known, is_sum_due, literal_fails, total_above}
+use Rattle.fm_steps.specs.Lines.{Certified, IsWellHeld}
 use Rattle.fm_steps.specs.Menu.{clause_atoms, clique_offer, clique_offer_of, cliques_from, first_lemmas, lemmas_of, offer_for, open_literals, pair_offers, size_decision, size_decisions, split_offers, sum_offers_at, values_at}
 use Rattle.fm_steps.specs.Offered.{PicksHold}
-use Rattle.fm_steps.specs.Picks.{IsKnown, IsPair, IsPickAt, IsTest, Known, clique_lemma, clique_literals, is_clique, is_sublist, pair_literals, pick_literals, read_literals}
+use Rattle.fm_steps.specs.Picks.{IsKnown, IsPair, IsPickAt, IsTest, Known, clique_lemma, clique_literals, is_clique, pair_literals, pick_literals, read_literals}
 use Rattle.fm_steps.specs.Rows.{Offer, content_at}
-use Rattle.fm_steps.specs.Searchable.{HasLastAlone, IsSearchable, SatIsExact, SumIsWithin}
+use Rattle.fm_steps.specs.Searchable.{HasLastAlone, SatIsExact, SumIsWithin}
 use Rattle.fm_steps.specs.Sizes.{card, greatest_false, holds, is_refuted, is_unvalued, least, least_open, least_true, least_with, lit, numbers_with, sort}
 use Rattle.fm_steps.specs.State.{Pick, Problem, State, atom_value, read_by}
-use Rattle.fm_steps.proofs.Bounded.{IsBounded}
 use Rattle.fm_steps.proofs.Chosen.{AreChosen, pick_there, reached_chosen, tests_same}
 use Rattle.fm_steps.proofs.Classes.{no_more}
 use Rattle.fm_steps.proofs.Contents.{contents_are_grounded, searchable_are_sorted}
-use Rattle.fm_steps.proofs.Due.{all_in, in_all, known_has}
-use Rattle.fm_steps.proofs.InRow.{IsOrdered, bound_true, bounds_there, false_up_to, greatest_above, greatest_in, holds_known, in_numbers, is_decided, is_large, not_due, of_numbers, offer_lemma, reached_ordered, sum_fails, sum_part, take_none, with_parts, within_bound, zero_false}
+use Rattle.fm_steps.proofs.Due.{all_in, known_has}
+use Rattle.fm_steps.proofs.InRow.{IsOrdered, bound_true, bounds_there, false_up_to, greatest_above, holds_known, in_numbers, is_decided, is_large, not_due, offer_lemma, reached_ordered, sum_fails, sum_part, take_none, with_parts, within_bound, zero_false}
 use Rattle.fm_steps.proofs.Lists.{Has-append, Has-get, append_none}
 use Rattle.fm_steps.proofs.Numbered.{bounds_are_written, sat_is_met}
 use Rattle.fm_steps.proofs.Offered.{cond_none, congruence_part, flat_none, reached_hold, value_none}

@@ -1,12 +1,11 @@
 -- What the menu of a run offers can be done.
-use Rattle.std.proofs.Common.{◌≡◌, ℕ, zero, suc, ◌+◌, ◌-◌, ◌≤◌, ◌<◌, ◌⊎◌, ◌==◌, ◌&&◌, Bool, true, false, cond, List, [], ◌∷◌, ◌++◌, length, slice_get, Some, None, inl, inr, refl, sym, ap, subst, ◌∙◌, arith}
+use Rattle.std.proofs.Common.{◌≡◌, ℕ, ◌+◌, ◌-◌, ◌≤◌, ◌<◌, ◌==◌, ◌&&◌, Bool, true, false, cond, List, [], ◌∷◌, length, slice_get, Some, None, inl, inr, refl, sym, ap, subst, ◌∙◌, arith}
 use Rattle.std.specs.Prelude.{Option}
 use Rattle.std.specs.List.{filter, flat_map, list_any, range_with_len}
-use Rattle.std.proofs.lemmas.Bool.{and_parts, cases_Bool, eqb-false, eqb-true, ltb-true, true≢false}
+use Rattle.std.proofs.lemmas.Bool.{and_parts, eqb-false, eqb-true, ltb-true}
 use Rattle.std.proofs.lemmas.Slice.Eq.{bytes_eq-Decides}
 use Rattle.fm_base.specs.Resolution.{Has}
 use Rattle.fm_base.specs.declared.ids.Lit.{Lit}
-use Rattle.fm_base.specs.declared.ids.Reader.{Reader}
 use Rattle.fm_bank.specs.Instances.{equality}
 use Rattle.fm_bank.specs.Interning.{find_atom, lit_in}
 use Rattle.fm_bank.specs.Regions.{first_large, grown_regions}
@@ -17,14 +16,13 @@ use Rattle.fm_rounds.proofs.Members.{in_filter, in_flat}
 use Rattle.fm_sat.specs.Learning.{Steps}
 use Rattle.fm_steps.specs.Content.{classes_of, is_oldest, is_term_of_sort}
 use Rattle.fm_steps.specs.Facts.{TrailIsExplained}
-use Rattle.fm_steps.specs.Going.{IsWithinBudget, MenusAreNotEmpty, RunsAreWithinBudget, StepsGoOn}
-use Rattle.fm_steps.specs.Lemmas.{Due, is_known}
-use Rattle.fm_steps.specs.Menu.{conflicts_from, menu_of, pair_offers, split_decisions, split_offers, splits_of, takes_of, units_from}
+use Rattle.fm_steps.specs.Going.{MenusAreNotEmpty, RunsAreWithinBudget, StepsGoOn}
+use Rattle.fm_steps.specs.Lemmas.{is_known}
+use Rattle.fm_steps.specs.Menu.{menu_of, pair_offers, split_offers, splits_of, takes_of, units_from}
 use Rattle.fm_steps.specs.Offered.{raised}
 use Rattle.fm_steps.specs.Picks.{IsKnown, IsPair, IsPickAt, Known}
 use Rattle.fm_steps.specs.Rows.{LearnRow, Offer, Row, SplitRow, after_learning}
-use Rattle.fm_steps.specs.Runs.{IsReached, Run, carried}
-use Rattle.fm_steps.specs.Searchable.{IsSearchable}
+use Rattle.fm_steps.specs.Runs.{Run, carried}
 use Rattle.fm_steps.specs.Sizes.{is_unvalued, least_true, lit, numbers_with, sort}
 use Rattle.fm_steps.specs.State.{Budget, Clause, Pick, Problem, State, back_to, decided, know, put, put_decision, read_one, with_literals}
 use Rattle.fm_steps.proofs.Bounded.{not_unit}
@@ -35,7 +33,7 @@ use Rattle.fm_steps.proofs.Distinct.{unit_new_in_runs}
 use Rattle.fm_steps.proofs.InRow.{of_numbers}
 use Rattle.fm_steps.proofs.Learnt.{learnt_from}
 use Rattle.fm_steps.proofs.Lists.{append_none, only_one}
-use Rattle.fm_steps.proofs.Menus.{at_five, at_most_seven, kind, not_empty, quiet_two}
+use Rattle.fm_steps.proofs.Menus.{at_most_seven, not_empty, quiet_two}
 use Rattle.fm_steps.proofs.Numbered.{sat_is_met}
 use Rattle.fm_steps.proofs.Offered.{false_new, least_in, raise_is_met}
 use Rattle.fm_steps.proofs.Ready.{learn_ready, quiet_at, take_ready, turn_ready, unit_ready, unsat_ready}

@@ -1,15 +1,15 @@
 -- From each false clause with a literal above level 0 something is learnt: the rule of the first unique implication point ends.
-use Rattle.std.proofs.Common.{◌≡◌, ◌≢◌, ℕ, zero, suc, ◌≤◌, ◌<◌, ◌⊎◌, ◌==◌, ◌&&◌, Bool, true, false, not, cond, List, [], ◌∷◌, ◌++◌, slice_get, take, Some, None, inl, inr, refl, sym, ap, subst, ◌∙◌, arith}
+use Rattle.std.proofs.Common.{◌≡◌, ◌≢◌, ℕ, zero, suc, ◌≤◌, ◌<◌, ◌⊎◌, ◌==◌, ◌&&◌, Bool, true, false, not, cond, List, [], ◌∷◌, ◌++◌, take, inl, inr, refl, sym, ap, subst, ◌∙◌, arith}
 use Rattle.std.specs.List.{filter, list_any}
 use Rattle.std.proofs.lemmas.Bool.{and_from, and_parts, cases_Bool, cases_lt, eq-eqb, eqb-true, false≢true, not-true, true≢false}
 use mathlib.Core.Bool.{beq}
 use Rattle.fm_base.specs.Resolution.{AreDistinct, Has, Resolves, SameSet, opposite}
 use Rattle.fm_base.specs.declared.ids.Lit.{Lit}
 use Rattle.fm_rounds.proofs.Members.{any_in, filter_in, in_any, in_either, in_filter, in_left, in_right}
-use Rattle.fm_sat.specs.Learning.{Clauses, Derives, IsAsserting, IsBackward, IsConflict, IsExplained, IsHighestBeside, IsReason, IsStep, Steps}
+use Rattle.fm_sat.specs.Learning.{Clauses, Derives, IsAsserting, IsConflict, IsExplained, IsHighestBeside, IsReason, IsStep, Steps}
 use Rattle.fm_trail.specs.declared.entry.Entry.{Entry}
 use Rattle.fm_trail.specs.declared.entry.Why.{Why}
-use Rattle.fm_trail.specs.Trail.{are_false, is_decided, is_false, level_on, place_of}
+use Rattle.fm_trail.specs.Trail.{are_false, is_decided, is_false, level_on}
 use Rattle.fm_trail.proofs.Literals.{IsFalseAt, decision_first, false_at, false_before, false_by, level_at, levels_ascend, opposite-opposite}
 
 -- literals that are the same

@@ -44,3 +44,5 @@ pub mod Classes
 pub mod Exact
 pub mod Learnt
 pub mod Going
+pub mod Large
+pub mod Settled

@@ -1,5 +1,5 @@
 -- A list isn't longer than another one, where each of its elements goes with one of that, and no two with the same.
-use Rattle.std.proofs.Common.{◌≡◌, ℕ, zero, suc, ◌≤◌, ◌⊎◌, Bool, true, List, [], ◌∷◌, length, inl, inr, refl, sym, ap, subst, ◌∙◌, arith}
+use Rattle.std.proofs.Common.{◌≡◌, suc, ◌≤◌, ◌⊎◌, Bool, true, List, [], ◌∷◌, length, inl, inr, refl, sym, subst, ◌∙◌, arith}
 use Rattle.fm_base.specs.Resolution.{Has}
 
 -- the list without one of its elements

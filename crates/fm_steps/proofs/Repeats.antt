@@ -1,10 +1,10 @@
 -- Lemmas without repeats: more literals show as much, and the lemmas of cliques, sums and orders have none.
-use Rattle.std.proofs.Common.{◌≡◌, ℕ, zero, suc, ◌+◌, ◌-◌, ◌<◌, ◌≤◌, ◌||◌, Bool, true, false, not, cond, nat_le, List, [], ◌∷◌, ◌++◌, length, map, inl, inr, refl, sym, ap, subst, ◌∙◌, arith}
+use Rattle.std.proofs.Common.{◌≡◌, ℕ, ◌+◌, ◌-◌, ◌<◌, ◌≤◌, Bool, true, false, not, cond, List, [], ◌∷◌, ◌++◌, length, map, inl, inr, refl, sym, ap, subst, ◌∙◌, arith}
 use Rattle.std.specs.List.{flat_map, list_any}
 use Rattle.std.proofs.lemmas.Bool.{false≢true, le-leb, or_cases, or_left, or_right, true≢false}
 use Rattle.fm_base.specs.Resolution.{AreDistinct, Has}
 use Rattle.fm_base.proofs.Resolution.{has_mapped, mapped_has}
-use Rattle.fm_bank.specs.Closure.{Follows, no, object, yes}
+use Rattle.fm_bank.specs.Closure.{no, object, yes}
 use Rattle.fm_bank.specs.Instances.{equality}
 use Rattle.fm_bank.specs.Interning.{Held}
 use Rattle.fm_bank.specs.declared.atom.Atom.{Atom}

@@ -1,17 +1,17 @@
 -- The terms of the tests stand in ascending order.
-use Rattle.std.proofs.Common.{◌≡◌, ℕ, zero, suc, ◌+◌, ◌<◌, ◌==◌, ◌&&◌, ◌||◌, Bool, true, false, cond, List, [], ◌∷◌, map, Some, None, inl, inr, refl, sym, ap, subst, ◌∙◌, arith}
+use Rattle.std.proofs.Common.{◌≡◌, ℕ, zero, suc, ◌+◌, ◌<◌, ◌==◌, ◌&&◌, ◌||◌, Bool, true, false, cond, List, [], ◌∷◌, map, Some, None, sym, subst, ◌∙◌, arith}
 use Rattle.std.specs.Prelude.{Option, slice_get}
 use Rattle.std.specs.List.{All, filter, list_any, range_with_len}
 use Rattle.std.proofs.lemmas.Slice.Eq.{bytes_eq-Decides}
 use Rattle.fm_base.specs.Resolution.{Has}
 use Rattle.fm_base.proofs.Resolution.{mapped_has}
 use Rattle.fm_bank.specs.Interning.{Held}
-use Rattle.fm_bank.specs.Regions.{first_large, grown_regions, is_in, joined}
+use Rattle.fm_bank.specs.Regions.{first_large, grown_regions, is_in}
 use Rattle.fm_bank.specs.Tests.{Tests}
 use Rattle.fm_guide.specs.declared.event.Event.{Event}
 use Rattle.fm_rounds.proofs.Members.{in_filter, in_range}
 use Rattle.fm_steps.specs.Content.{classes_of, is_oldest, is_term_of_sort}
-use Rattle.fm_steps.specs.Picks.{ArePicks, IsPickAt, IsTest, Settles, is_sublist}
+use Rattle.fm_steps.specs.Picks.{ArePicks, IsPickAt, IsTest, Settles}
 use Rattle.fm_steps.specs.Runs.{IsReached, Run}
 use Rattle.fm_steps.specs.Sizes.{least_true, sort}
 use Rattle.fm_steps.specs.State.{Budget, Pick, Problem, State}
@@ -40,13 +40,16 @@ classes_rise held t u = filter_rises (λ n. is_term_of_sort held u n && is_oldes
 alone_rise : (classes : List ℕ) → All Ascends (map (λ (c : ℕ). c ∷ []) classes)
 alone_rise classes = all_from Ascends (map (λ (c : ℕ). c ∷ []) classes) (λ r q. let m = mapped_has (λ (c : ℕ). c ∷ []) classes r q in subst Ascends m.is (λ y h. absurd h, tt))
 
+pub region_rises : (apart : ℕ → ℕ → Bool) (classes : List ℕ) (k : ℕ) → Ascends classes → Ascends (first_large k (grown_regions apart classes k))
+region_rises apart classes k rises = first_grown Ascends apart classes k (λ r s. filter_rises (λ c. is_in r c || is_in s c) classes rises) tt (alone_rise classes)
+
 test_rises : (held : Held) (t : Tests) (u k : ℕ) (pick : Pick) → IsTest t (classes_of held t (sort u)) k pick → Ascends pick.terms
 test_rises held t u k pick h =
     let classes = classes_of held t (sort u) in
     let region = first_large k (grown_regions t.apart classes k) in
     let p : ℕ → Bool = λ y. list_any (λ z. z == y) pick.terms in
     let same : filter p region ≡ pick.terms = (bytes_eq-Decides (filter p region) pick.terms).0 h.among in
-    subst Ascends same (filter_rises p region (first_grown Ascends t.apart classes k (λ r s. filter_rises (λ c. is_in r c || is_in s c) classes (classes_rise held t u)) tt (alone_rise classes)))
+    subst Ascends same (filter_rises p region (region_rises t.apart classes k (classes_rise held t u)))
 
 pick_rises : (held : Held) (t : Tests) (u : ℕ) (o : Option ℕ) (p : Option Pick) (pick : Pick) → p ≡ Some pick → IsPickAt t (classes_of held t (sort u)) o p → Ascends pick.terms
 pick_rises held t u None p pick e h = absurd (cc (sym h ∙ e))

@@ -1,43 +1,38 @@
 -- Where groups 1 to 6 of the menu are empty the content makes true what the trail does, so the added instances over
 -- representatives are true in the candidate.
-use Rattle.std.proofs.Common.{◌≡◌, ℕ, zero, suc, ◌≤◌, ◌<◌, ◌||◌, Bool, true, false, not, cond, nat_lt, List, [], ◌∷◌, ◌++◌, length, map, take, Some, None, inl, inr, refl, sym, ap, subst, ◌∙◌, arith}
+use Rattle.std.proofs.Common.{◌≡◌, ℕ, zero, suc, ◌≤◌, Bool, true, false, not, cond, nat_lt, List, [], ◌∷◌, length, map, take, Some, None, inl, inr, refl, sym, ap, subst, ◌∙◌, arith}
 use Rattle.std.specs.Prelude.{Option, slice_get}
-use Rattle.std.specs.List.{filter, list_all, list_any}
-use Rattle.std.proofs.lemmas.Bool.{cases_Bool, false≢true, le-ltb, ltb-false, or_left, or_right, true≢false}
-use Rattle.fm_base.specs.Normal.{signed}
+use Rattle.std.proofs.lemmas.Bool.{cases_Bool, false≢true, ltb-false, or_left, or_right, true≢false}
 use Rattle.fm_base.specs.Resolution.{Has}
-use Rattle.fm_base.specs.declared.ids.Lit.{Lit}
 use Rattle.fm_base.specs.declared.ids.Reader.{Reader}
 use Rattle.fm_base.specs.declared.signature.Sig.{Sig}
 use Rattle.fm_base.proofs.Resolution.{has_mapped, mapped_has}
 use Rattle.fm_bank.specs.Closure.{Follows, Shape, no, object, yes}
 use Rattle.fm_bank.specs.Interning.{first_places, is_atom, lit_in}
-use Rattle.fm_bank.specs.Tests.{Tests}
 use Rattle.fm_bank.specs.declared.atom.Atom.{Atom}
 use Rattle.fm_bank.specs.declared.clause.Clause.{Clause as FirstOrderClause}
 use Rattle.fm_bank.specs.declared.literal.Literal.{Literal}
-use Rattle.fm_guide.specs.declared.event.Event.{Event}
 use Rattle.fm_guide.specs.declared.event.Word.{Word}
-use Rattle.fm_rounds.specs.Grounds.{atom_by, literal_by}
+use Rattle.fm_rounds.specs.Grounds.{literal_by}
 use Rattle.fm_rounds.specs.Rounds.{Content, candidate_reading, representatives}
-use Rattle.fm_rounds.specs.Soundness.{AreTrueBy, IsTrueBy}
+use Rattle.fm_rounds.specs.Soundness.{IsTrueBy}
 use Rattle.fm_rounds.proofs.AddedTrue.{IsGround, added_are_true, literals_ground}
 use Rattle.fm_rounds.proofs.Members.{any_in, filter_in, flat_in, in_any, in_left, in_right}
 use Rattle.fm_rounds.proofs.Newness.{failing_new}
 use Rattle.fm_rounds.proofs.ReadAlike.{tables_read_alike}
 use Rattle.fm_trail.specs.declared.entry.Entry.{Entry}
 use Rattle.fm_trail.specs.Trail.{head_of, is_true, is_value}
-use Rattle.fm_steps.specs.Bounds.{AddedStand, IsAdded}
+use Rattle.fm_steps.specs.Bounds.{AddedStand}
 use Rattle.fm_steps.specs.Content.{all_shapes, equal_pair, facts_in, has_clash, is_size, literal_at, literals_of, pairs_in, predicate_term, terms_in}
-use Rattle.fm_steps.specs.Facts.{HeadsAreWithin, IsLawful}
+use Rattle.fm_steps.specs.Facts.{IsLawful}
 use Rattle.fm_steps.specs.Lemmas.{is_known}
 use Rattle.fm_steps.specs.Lines.{IsWellHeld}
 use Rattle.fm_steps.specs.Menu.{clause_atoms, decisions_of, first_lemmas, free_decisions, menu_of, or_else, readers, size_decisions, takes_of, units_from}
 use Rattle.fm_steps.specs.Picks.{IsKnown, Known, read_literals}
 use Rattle.fm_steps.specs.Rows.{Offer, content_at, is_satisfied, with_instance}
-use Rattle.fm_steps.specs.Searchable.{AddedHold, HasLastAlone, InstanceIsMet, InstancesHold, IsLastOffer, LastStandsAlone}
+use Rattle.fm_steps.specs.Searchable.{HasLastAlone, InstanceIsMet, InstancesHold, LastStandsAlone}
 use Rattle.fm_steps.specs.Sizes.{is_unvalued, lit}
-use Rattle.fm_steps.specs.State.{Clause, Problem, State, read_by, value_by}
+use Rattle.fm_steps.specs.State.{Problem, State, read_by, value_by}
 use Rattle.fm_steps.proofs.Adding.{instances_stand}
 use Rattle.fm_steps.proofs.Bounded.{entry_by}
 use Rattle.fm_steps.proofs.Contents.{contents_are_grounded, searchable_are_sorted}
@@ -46,7 +41,7 @@ use Rattle.fm_steps.proofs.Lists.{Has-get, append_none}
 use Rattle.fm_steps.proofs.Menus.{decided_all, kind, quiet_before}
 use Rattle.fm_steps.proofs.Numbered.{instance_fails}
 use Rattle.fm_steps.proofs.Numbers.{get_place, known_any}
-use Rattle.fm_steps.proofs.Offered.{all_satisfied, cond_none, congruence_part, else_none, flat_none, some_true}
+use Rattle.fm_steps.proofs.Offered.{all_satisfied, cond_none, congruence_part, else_none, flat_none}
 use Rattle.fm_steps.proofs.Ready.{instance_ready, quiet_at}
 use Rattle.fm_steps.proofs.Running.{reached_good}
 use Rattle.fm_steps.proofs.Runs.{runs_stay_held}
