@@ -46,3 +46,4 @@ pub mod Learnt
 pub mod Going
 pub mod Large
 pub mod Settled
+pub mod Asked
