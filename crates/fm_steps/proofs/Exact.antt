@@ -389,6 +389,11 @@ module _ (p : Problem) (s : State) (k : Known) (is : IsKnown s k) (ordered : IsO
         | inr many ↦ ordered.bounded.good.lawful.bounds.smaller (s.bound - 1) (omega (arith, many)) (omega (arith, some))
       ]
 
+no_sum : (n : ℕ) (f : ℕ → ℕ) → n ≡ 0 → sum_below n f ≡ 0
+unfolding sum_below
+no_sum zero f e = refl
+no_sum (suc n) f e = absurd (omega (arith, e))
+
 pub sum_is_within : SumIsWithin
 sum_is_within p b events s k search h is bounded alone =
     let o = reached_ordered p b events s h in
@@ -408,5 +413,6 @@ sat_is_exact p b events s k search h is fit offered =
     record {
       sum = sum;
       tables = (tables_read_alike (content_at p s k) p.clauses g search.named search.sorted).sum ∙ sum;
+      none = λ e. sym sum ∙ no_sum p.sig.sorts (λ u. length (reps_of (content_at p s k) u)) e;
       below = bound_below p s k is o (runs_stay_held p b events s sorted h) (reached_hold p b events s h) (reached_rise p b events s h) o.bounded.good.picks (reached_chosen p b events s h) bounded alone;
     }

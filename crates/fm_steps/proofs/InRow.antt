@@ -237,7 +237,7 @@ row_in_row p b s k Offer.Raise t d h r = raised p s t (ap (λ (u : State). u.bou
 row_in_row p b s k (Offer.Answer w) t d h r = subst (SizesAreInRow p) (sym r.1) h
 
 -- the equalities of cliques are no size atoms
-pairs_plain : (ts : List ℕ) (l : Literal) → Has (pair_literals ts) l → is_size l.atom ≡ false
+pub pairs_plain : (ts : List ℕ) (l : Literal) → Has (pair_literals ts) l → is_size l.atom ≡ false
 pairs_plain [] l h = absurd h
 pairs_plain (t ∷ ts) l h =
     elim (Has-append (map (λ b. lit true (equality t b)) ts) (pair_literals ts) l h) [
@@ -675,7 +675,7 @@ run_ordered : (p : Problem) (b : Budget) (s : State) (es : List Event) (t : Stat
 run_ordered p b s [] t h r = subst (IsOrdered p) (sym r) h
 run_ordered p b s (e ∷ es) t h r = run_ordered p b r.0 es t (step_ordered p b s e r.0 h r.1) r.3
 
-begun_ordered : (p : Problem) (s : State) → IsStart p s → IsOrdered p s
+pub begun_ordered : (p : Problem) (s : State) → IsStart p s → IsOrdered p s
 begun_ordered p s st =
     let begun : AreBegun p.sig.sorts s.held.atoms = subst (λ (u : State). AreBegun p.sig.sorts u.held.atoms) (sym st.after) (begun_more p.sig.sorts (first_state p).held.atoms (flat_map pick_literals st.picks) (first_begun p) (λ l q size. absurd (false≢true (sym (picks_plain st.picks l q) ∙ size)))) in
     let last : Knows s.held.atoms (Atom.Bound p.sig.sorts) = subst (λ (u : State). Knows u.held.atoms (Atom.Bound p.sig.sorts)) (sym st.after) (known_then (flat_map pick_literals st.picks) (first_state p).held.atoms (Atom.Bound p.sig.sorts) (bound_known p)) in

@@ -47,3 +47,4 @@ pub mod Going
 pub mod Large
 pub mod Settled
 pub mod Asked
+pub mod Paid

@@ -98,7 +98,7 @@ some_true None e = absurd (false≢true e)
 some_true (Some true) e = refl
 some_true (Some false) e = absurd (false≢true e)
 
-true_parts : (s : State) (a : Atom) (o : Option ℕ) → find_atom s.held.atoms a ≡ o → is_value (option_and_then (value_by s.trail.entries) o) true ≡ true → (n : ℕ) × (find_atom s.held.atoms a ≡ Some n) × (value_by s.trail.entries n ≡ Some true)
+pub true_parts : (s : State) (a : Atom) (o : Option ℕ) → find_atom s.held.atoms a ≡ o → is_value (option_and_then (value_by s.trail.entries) o) true ≡ true → (n : ℕ) × (find_atom s.held.atoms a ≡ Some n) × (value_by s.trail.entries n ≡ Some true)
 true_parts s a None e h = absurd (false≢true h)
 true_parts s a (Some n) e h = (n, e, some_true (value_by s.trail.entries n) h)
 

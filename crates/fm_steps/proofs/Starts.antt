@@ -211,3 +211,6 @@ start_terms p s st =
     let s1 : State = with_ground_clauses p.clauses (empty_state p) in
     let s2 : State = with_elements (range_with_len 0 p.sig.sorts) s1 in
     ap (λ (u : State). u.held.terms) st.after ∙ (sum_terms p.sig.sorts s2 ∙ (elements_terms (range_with_len 0 p.sig.sorts) s1 ∙ ground_terms p.clauses (empty_state p)))
+
+pub start_free : (p : Problem) (s : State) → IsStart p s → s.free ≡ false
+start_free p s st = ap (λ (x : Rest). x.free) (begun p s st).rest

@@ -1,5 +1,5 @@
 -- In a run there is always something to offer, and each offer is a step.
-use Rattle.std.specs.Prelude.{◌≡◌, ◌≤◌, List, slice_get, Some}
+use Rattle.std.specs.Prelude.{◌≡◌, ◌≤◌, ◌+◌, List, slice_get, Some}
 use Rattle.fm_base.specs.Resolution.{Has}
 use Rattle.fm_guide.specs.declared.event.Event.{Event}
 use Rattle.fm_steps.specs.Menu.{menu_of}
@@ -38,3 +38,7 @@ abbrev pub StepsExist : Type 0
 StepsExist =
     (p : Problem) (b : Budget) (events : List Event) (s : State) (k : Known) (o : Offer) → IsSearchable p → IsReached p b events s
     → IsKnown s k → Has (menu_of p s k) o → (t : State) × Step p b s (event_of s (carried b s o)) t
+
+-- each bound but the first has taken a decision, so the bound can be written where the budget lets it
+abbrev pub BoundsAreCounted : Type 0
+BoundsAreCounted = (p : Problem) (b : Budget) (events : List Event) (s : State) → IsReached p b events s → s.bound ≤ p.sig.sorts + s.decisions

@@ -91,11 +91,13 @@ SumIsWithin =
     (p : Problem) (b : Budget) (events : List Event) (s : State) (k : Known) → IsSearchable p → IsReached p b events s
     → IsKnown s k → s.free ≡ false → HasLastAlone s k → sum_of_sizes p.sig (candidate_reading (content_at p s k)) ≤ s.bound
 
--- Where Answer Sat is offered they add up to the bound, in its tables too; and the bound below it is false at level 0.
+-- Where Answer Sat is offered they add up to the bound, in its tables too; the bound below it is false at level 0, and where there
+-- is no sort the bound is 0.
 pub record IsExact (p : Problem) (s : State) (k : Known) : Type 0 where
   pub sum : sum_of_sizes p.sig (candidate_reading (content_at p s k)) ≡ s.bound
   pub tables : sum_of_sizes p.sig (reading_of (candidate (content_at p s k))) ≡ s.bound
   pub below : 0 < s.bound → is_refuted s (Atom.Bound (s.bound - 1)) ≡ true
+  pub none : p.sig.sorts ≡ 0 → s.bound ≡ 0
 
 abbrev pub SatIsExact : Type 0
 SatIsExact =

@@ -1,6 +1,6 @@
 ghost use Rattle.fm_steps.specs.Bounds.{BoundIsFirst, BoundIsOpen, DecisionsAreLarge, InstancesStand, SizesAreInRow, StartStays, ZeroIsImplied};
 ghost use Rattle.fm_steps.specs.Facts.{AtomsAreKnown, ClausesAreGuarded, HeadsAreWithin, InstancesAreCounted, IsLawful, PicksAreKnown, SizesAreAssumed, SmallerAreRefuted, TrailIsExplained};
-ghost use Rattle.fm_steps.specs.Going.{MenusAreNotEmpty, RunsAreWithinBudget, RunsBegin, StatesSettle, StepsExist, StepsGoOn};
+ghost use Rattle.fm_steps.specs.Going.{BoundsAreCounted, MenusAreNotEmpty, RunsAreWithinBudget, RunsBegin, StatesSettle, StepsExist, StepsGoOn};
 ghost use Rattle.fm_steps.specs.Grounded.{TestsAreTyped};
 ghost use Rattle.fm_steps.specs.Lines.{BoundsAreWritten, LemmasAreLines, RowsAreWritten, RunsFollow, RunsHaveLines, RunsStayHeld, SettlingWritesNothing, StartIsWritten, StartsHeld, StepsStayHeld};
 ghost use Rattle.fm_steps.specs.Offered.{AreClausesDistinct, FalseLemmasAreNew, ImplyIsDue, InstanceFails, LemmaIsDue, PicksHold, RaiseIsMet, SatIsMet, UnitLemmasAreNew, UnitLemmasAreNewInRuns};
@@ -214,11 +214,12 @@ pub fn sat_is_exact()
 {}
 
 /// In every state of a run the menu has an offer, and the row of what is carried out for an offer is met; no count passes its
-/// budget. The tests can be chosen in each state, so a run can begin, and each offer is a step. It is a law of the definitions
-/// and does nothing.
+/// budget, and the bound no more than the number of sorts and the decisions together. The tests can be chosen in each state, so
+/// a run can begin, and each offer is a step. It is a law of the definitions and does nothing.
 pub fn steps_go_on()
     ensures menu { MenusAreNotEmpty }
     ensures budget { RunsAreWithinBudget }
+    ensures bounds { BoundsAreCounted }
     ensures rows { StepsGoOn }
     ensures settled { StatesSettle }
     ensures start { RunsBegin }

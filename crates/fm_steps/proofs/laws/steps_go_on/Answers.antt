@@ -1,4 +1,5 @@
 use Rattle.fm_steps.proofs.Going.{menus_are_not_empty, runs_are_within_budget, steps_go_on}
+use Rattle.fm_steps.proofs.Paid.{bounds_are_counted}
 use Rattle.fm_steps.proofs.Settled.{runs_begin, states_settle, steps_exist}
 use Rattle.fm_steps.proofs.laws.steps_go_on.Goals as goal
 
@@ -19,3 +20,6 @@ returns-clause-start c = runs_begin
 
 pub returns-clause-steps : goal.returns-clause-steps
 returns-clause-steps c = steps_exist
+
+pub returns-clause-bounds : goal.returns-clause-bounds
+returns-clause-bounds c = bounds_are_counted
