@@ -4,6 +4,7 @@ pub mod Candidates
 pub mod Elements
 pub mod FirstFailing
 pub mod Fits
+pub mod Freshness
 pub mod Holds
 pub mod LeastTuple
 pub mod Meeting

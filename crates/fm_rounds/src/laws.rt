@@ -1,3 +1,4 @@
+ghost use Rattle.fm_rounds.specs.Fresh.{FreshConstantsFit};
 ghost use Rattle.fm_rounds.specs.Soundness.{AddedAreTrue, CandidatesHold, ClausesAgree, FailingIsNew, FirstFailingIsLeast, InstanceTermsHold, InstancesAreReached, StartTermsHold, StartsAreInhabited, TablesAreWritten, TablesHaveOneForm, TablesReadAlike};
 
 /// The first failing clause and its tuple are what the textbook says of them, and there are none exactly where each clause
@@ -33,9 +34,11 @@ pub fn instance_terms_hold()
     ensures start { StartTermsHold }
 {}
 
-/// With the fresh constants each sort has a term at the start. It is a law of the definitions and does nothing.
+/// With the fresh constants each sort has a term at the start; and what is put behind the symbols of well sorted clauses, one
+/// constant for each sort without a ground term, are the fresh constants. It is a law of the definitions and does nothing.
 pub fn starts_are_inhabited()
-    ensures { StartsAreInhabited }
+    ensures inhabited { StartsAreInhabited }
+    ensures fresh { FreshConstantsFit }
 {}
 
 /// Rounds come to an end, so the terms of an added instance over representatives are reached; and where the test makes a

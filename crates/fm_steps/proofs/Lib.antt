@@ -48,3 +48,4 @@ pub mod Large
 pub mod Settled
 pub mod Asked
 pub mod Paid
+pub mod Fitting

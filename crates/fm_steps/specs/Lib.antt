@@ -1,6 +1,7 @@
 pub mod Bounds
 pub mod Content
 pub mod Facts
+pub mod Fitting
 pub mod Going
 pub mod Grounded
 pub mod Laws

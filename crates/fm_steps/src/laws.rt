@@ -1,5 +1,6 @@
 ghost use Rattle.fm_steps.specs.Bounds.{BoundIsFirst, BoundIsOpen, DecisionsAreLarge, InstancesStand, SizesAreInRow, StartStays, ZeroIsImplied};
 ghost use Rattle.fm_steps.specs.Facts.{AtomsAreKnown, ClausesAreGuarded, HeadsAreWithin, InstancesAreCounted, IsLawful, PicksAreKnown, SizesAreAssumed, SmallerAreRefuted, TrailIsExplained};
+ghost use Rattle.fm_steps.specs.Fitting.{DecisionsAreAtoms, InstancesAreTyped, SplitsAreAtoms};
 ghost use Rattle.fm_steps.specs.Going.{BoundsAreCounted, MenusAreNotEmpty, RunsAreWithinBudget, RunsBegin, StatesSettle, StepsExist, StepsGoOn};
 ghost use Rattle.fm_steps.specs.Grounded.{TestsAreTyped};
 ghost use Rattle.fm_steps.specs.Lines.{BoundsAreWritten, LemmasAreLines, RowsAreWritten, RunsFollow, RunsHaveLines, RunsStayHeld, SettlingWritesNothing, StartIsWritten, StartsHeld, StepsStayHeld};
@@ -224,4 +225,12 @@ pub fn steps_go_on()
     ensures settled { StatesSettle }
     ensures start { RunsBegin }
     ensures steps { StepsExist }
+{}
+
+/// What is carried out is over the registered terms: what stands for the variables of an instance has their sorts, and what is
+/// decided or split is an atom over the terms. It is a law of the definitions and does nothing.
+pub fn events_fit()
+    ensures instances { InstancesAreTyped }
+    ensures splits { SplitsAreAtoms }
+    ensures decisions { DecisionsAreAtoms }
 {}

@@ -5,9 +5,9 @@
 mod laws;
 
 pub use laws::{
-    clauses_stay_distinct, contents_are_grounded, events_keep, instances_stand, lemmas_are_due,
-    lemmas_are_lines, offered_instances_are_met, offers_are_met, offers_are_ready, readers_go_back,
-    rows_are_written, runs_are_lawful, runs_are_sound, runs_are_written, runs_follow_the_menu,
-    sat_is_exact, sizes_are_in_row, start_is_lawful, start_is_written, states_are_known,
-    steps_go_on, steps_keep, terms_stay_held, the_start_stays,
+    clauses_stay_distinct, contents_are_grounded, events_fit, events_keep, instances_stand,
+    lemmas_are_due, lemmas_are_lines, offered_instances_are_met, offers_are_met, offers_are_ready,
+    readers_go_back, rows_are_written, runs_are_lawful, runs_are_sound, runs_are_written,
+    runs_follow_the_menu, sat_is_exact, sizes_are_in_row, start_is_lawful, start_is_written,
+    states_are_known, steps_go_on, steps_keep, terms_stay_held, the_start_stays,
 };
