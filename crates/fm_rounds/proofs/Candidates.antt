@@ -31,7 +31,7 @@ use Rattle.fm_rounds.specs.Soundness.{Agree}
 use Rattle.fm_rounds.proofs.Reaching.{all_in, reached_is}
 use Rattle.fm_rounds.proofs.Elements.{application_parts, element_within, one_class, parts_of, reached_value, read_value, same_element, type_is, value_there}
 
-get_in : {X : Type 0} (xs : List X) (n : ℕ) (x : X) → slice_get xs n ≡ Some x → Has xs x
+pub get_in : {X : Type 0} (xs : List X) (n : ℕ) (x : X) → slice_get xs n ≡ Some x → Has xs x
 get_in [] n x e = cc
 get_in (y ∷ ys) zero x e = inl (cc e)
 get_in (y ∷ ys) (suc n) x e = inr (get_in ys n x e)
@@ -40,7 +40,7 @@ found_step : {X : Type 0} (p : X → Bool) (y k : X) (xs : List X) (b : Bool) �
 found_step p y k xs true e f = inl (cc f, refl)
 found_step p y k xs false e f = inr f
 
-found_in : {X : Type 0} (p : X → Bool) (xs : List X) (k : X) → find p xs ≡ Some k → Has xs k × (p k ≡ true)
+pub found_in : {X : Type 0} (p : X → Bool) (xs : List X) (k : X) → find p xs ≡ Some k → Has xs k × (p k ≡ true)
 found_in p [] k e = cc
 found_in p (y ∷ xs) k e = elim (found_step p y k xs (p y) refl e) [
   | inl (s, t) ↦ (inl s, ap p (sym s) ∙ t)
@@ -164,7 +164,7 @@ module _ (c : Content) (g : IsGrounded c) (named : names_its_sorts c.sig ≡ tru
       ap (λ xs. lits_true (candidate_reading c) xs lits) (sym (values_are subst h)) ∙ literals_truth c.sig (candidate_reading c) c.terms g.terms subst lits ls e ∙ literals_are ls r
 
 -- representatives are of different classes, so each has its own place as element
-abbrev Apart : Content → List ℕ → Type 0
+abbrev pub Apart : Content → List ℕ → Type 0
 Apart c [] = Unit {0}
 Apart c (n ∷ ns) = ((m : ℕ) → Has ns m → c.same (object n) (object m) ≡ false) × Apart c ns
 
@@ -217,6 +217,9 @@ unfolding round
 round_apart c zero = grown_apart c [] c.start tt
 round_apart c (suc i) = grown_apart c (round c i).reps ((round c i).terms ++ flat_map (reached_by (round c i).reps) c.added) (round_apart c i)
 
+pub reps_apart : (c : Content) (s : ℕ) → Apart c (reps_of c s)
+reps_apart c s = apart_filter c (λ n. is_type (type_of c.sig c.terms n) (Ty.Of (record { 0 = s }))) (reached c).reps (round_apart c (length c.added))
+
 member_at : (ns : List ℕ) (i : ℕ) → i < length ns → Has ns (get_or ns i 0)
 member_at [] i lt = absurd (omega (arith, lt))
 member_at (n ∷ ns) zero lt = inl refl
@@ -231,7 +234,7 @@ apart_at c (n ∷ ns) (suc k) (suc i) (one, h) less lt = apart_at c ns k i h (om
 pub rep_place : (c : Content) (g : IsGrounded c) (s x : ℕ) → x < length (reps_of c s) → position_or_len (λ r. c.same (object r) (object (get_or (reps_of c s) x 0))) (reps_of c s) ≡ x
 rep_place c g s x lt =
     let reps = reps_of c s in
-    let apart = apart_filter c (λ n. is_type (type_of c.sig c.terms n) (Ty.Of (record { 0 = s }))) (reached c).reps (round_apart c (length c.added)) in
+    let apart = reps_apart c s in
     position_or_len_is (λ r. c.same (object r) (object (get_or reps x 0))) reps x 0 (omega (arith, lt)) (λ k less. apart_at c reps k x apart less lt) (λ h. g.reflexive (object (get_or reps x 0)))
 
 typed_rep : (c : Content) (s n : ℕ) → Has (reps_of c s) n → type_of c.sig c.terms n ≡ Some (Ty.Of (record { 0 = s }))

@@ -39,7 +39,7 @@ one_in None n h = absurd h
 one_in (Some m) n (inl e) = ap Some e
 one_in (Some m) n (inr h) = absurd h
 
-in_one : (o : Option ℕ) (n : ℕ) → o ≡ Some n → Has (as_list o) n
+pub in_one : (o : Option ℕ) (n : ℕ) → o ≡ Some n → Has (as_list o) n
 in_one None n e = cc
 in_one (Some m) n e = inl (cc e)
 

@@ -1,4 +1,5 @@
 pub mod Failing
+pub mod Fresh
 pub mod Grounds
 pub mod InstanceTerms
 pub mod Rounds

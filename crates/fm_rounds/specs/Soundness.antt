@@ -1,25 +1,28 @@
 -- What tables, the candidate and the first failing instance are good for, as laws.
-use Rattle.std.specs.Prelude.{◌≡◌, ℕ, ◌<◌, true, List, [], ◌∷◌, get_or, length, map, slice_get, Some}
-use Rattle.std.specs.List.{list_any}
+use Rattle.std.specs.Prelude.{◌≡◌, ℕ, ◌<◌, Bool, true, List, [], ◌∷◌, get_or, length, map, slice_get, Some}
+use Rattle.std.specs.List.{list_all, list_any}
 use Rattle.fm_base.specs.Interpretations.{IsInterpretation, Reading, ascends, entry_in, is_fit, is_tuple, names_its_sorts, reading_of}
-use Rattle.fm_base.specs.Models.{IsElements}
+use Rattle.fm_base.specs.Models.{IsElements, sum_of_sizes}
 use Rattle.fm_base.specs.Resolution.{Has}
 use Rattle.fm_base.specs.declared.ids.SortId.{SortId}
 use Rattle.fm_base.specs.declared.signature.Rank.{Rank}
 use Rattle.fm_base.specs.declared.signature.Sig.{Sig}
+use Rattle.fm_base.specs.declared.signature.Ty.{Ty}
 use Rattle.fm_bank.specs.Clauses.{lits_true}
 use Rattle.fm_bank.specs.Instances.{ground_literals, is_substitution}
-use Rattle.fm_bank.specs.Sorted.{are_sorted_literals}
-use Rattle.fm_bank.specs.Terms.{Term, value_of}
+use Rattle.fm_bank.specs.Interning.{is_atom}
+use Rattle.fm_bank.specs.Sorted.{are_sorted_literals, is_sorted_clause}
+use Rattle.fm_bank.specs.Terms.{Term, is_type, type_of, value_of}
 use Rattle.fm_bank.specs.declared.atom.Atom.{Atom}
 use Rattle.fm_bank.specs.declared.clause.Clause.{Clause}
 use Rattle.fm_bank.specs.declared.clause.ClauseSet.{ClauseSet}
 use Rattle.fm_bank.specs.declared.clause.Plit.{Plit}
 use Rattle.fm_bank.specs.declared.literal.Literal.{Literal}
 use Rattle.fm_rounds.specs.Failing.{AreTrueThere, FailsFirst, failing_instance, first_failing}
+use Rattle.fm_rounds.specs.Fresh.{HasFreshConstants, HasStartTerms}
 use Rattle.fm_rounds.specs.Grounds.{AreReached, AreTermsOf, ArgumentsIn, IsGrounded, IsReachedTerm, literal_by}
 use Rattle.fm_rounds.specs.InstanceTerms.{clause_terms, start_terms}
-use Rattle.fm_rounds.specs.Rounds.{Content, candidate, element_of, reps_of}
+use Rattle.fm_rounds.specs.Rounds.{Content, candidate, candidate_reading, content_of, element_of, reached, representatives, reps_of}
 use Rattle.fm_rounds.specs.Tuples.{tabled}
 
 -- the first failing clause and its tuple are what the textbook says of them
@@ -120,3 +123,49 @@ pub record AreStartTerms (set : ClauseSet) (terms : List Term) : Type 0 where
 
 abbrev pub StartTermsHold : Type 0
 StartTermsHold = (set : ClauseSet) (terms : List Term) → AreStartTerms set terms
+
+-- with the fresh constants each sort has a term at the start
+abbrev pub StartsAreInhabited : Type 0
+StartsAreInhabited =
+    (set : ClauseSet) (terms : List Term) → HasFreshConstants set → HasStartTerms set terms → (s : ℕ) → s < set.sig.sorts
+    → (n : ℕ) × Has (start_terms set terms) n × (is_type (type_of set.sig terms n) (Ty.Of (record { 0 = s })) ≡ true)
+
+-- rounds come to an end: the terms of an added instance over representatives are reached
+abbrev pub InstancesAreReached : Type 0
+InstancesAreReached =
+    (c : Content) → IsGrounded c → (i : List ℕ × List ℕ) (n : ℕ) → Has c.added i → ((k : ℕ) → Has i.0 k → Has (reached c).reps k)
+    → Has i.1 n → IsReachedTerm c n
+
+-- the test makes a literal of the instance true
+pub record IsTrueBy (c : Content) (lits : List Plit) (subst : List ℕ) : Type 0 where
+  pub literals : List Literal
+  pub grounded : ground_literals c.terms subst lits ≡ Some literals
+  pub atoms : list_all (λ (l : Literal). is_atom c.sig c.terms l.atom) literals ≡ true
+  pub some : list_any (literal_by c) literals ≡ true
+
+abbrev pub AreTrueBy : Content → List Clause → List (ℕ × List ℕ) → Type 0
+AreTrueBy c clauses added = (i : ℕ × List ℕ) (clause : Clause) → Has added i → slice_get clauses i.0 ≡ Some clause → IsTrueBy c clause.lits i.1
+
+-- well sorted clauses of a grounded content's signature
+pub record IsSearched (set : ClauseSet) (c : Content) : Type 0 where
+  pub grounded : IsGrounded c
+  pub named : names_its_sorts set.sig ≡ true
+  pub sorted : list_all (is_sorted_clause set.sig) set.clauses ≡ true
+
+-- then the added instances over representatives are true in the candidate
+abbrev pub AddedAreTrue : Type 0
+AddedAreTrue =
+    (set : ClauseSet) (terms : List Term) (same : ℕ → ℕ → Bool) (added : List (ℕ × List ℕ)) → IsSearched set (content_of set terms same added)
+    → AreTrueBy (content_of set terms same added) set.clauses added
+    → AreTrueThere (candidate_reading (content_of set terms same added)) (representatives (content_of set terms same added)) set.clauses added
+
+-- the candidate and its tables have one sum, and are alike in what fails and in which added instances are true
+pub record TablesAreAlike (c : Content) (clauses : List Clause) : Type 0 where
+  pub sum : sum_of_sizes c.sig (reading_of (candidate c)) ≡ sum_of_sizes c.sig (candidate_reading c)
+  pub failing : failing_instance (reading_of (candidate c)) (representatives c) clauses ≡ failing_instance (candidate_reading c) (representatives c) clauses
+  pub added : (added : List (ℕ × List ℕ)) → AreTrueThere (candidate_reading c) (representatives c) clauses added → AreTrueThere (reading_of (candidate c)) (representatives c) clauses added
+
+abbrev pub TablesReadAlike : Type 0
+TablesReadAlike =
+    (c : Content) (clauses : List Clause) → IsGrounded c → names_its_sorts c.sig ≡ true → list_all (is_sorted_clause c.sig) clauses ≡ true
+    → TablesAreAlike c clauses

@@ -1,4 +1,5 @@
-ghost use Rattle.fm_rounds.specs.Soundness.{CandidatesHold, ClausesAgree, FailingIsNew, FirstFailingIsLeast, InstanceTermsHold, StartTermsHold, TablesAreWritten, TablesHaveOneForm};
+ghost use Rattle.fm_rounds.specs.Fresh.{FreshConstantsFit};
+ghost use Rattle.fm_rounds.specs.Soundness.{AddedAreTrue, CandidatesHold, ClausesAgree, FailingIsNew, FirstFailingIsLeast, InstanceTermsHold, InstancesAreReached, StartTermsHold, StartsAreInhabited, TablesAreWritten, TablesHaveOneForm, TablesReadAlike};
 
 /// The first failing clause and its tuple are what the textbook says of them, and there are none exactly where each clause
 /// holds; and where the added instances are true, the first failing one is none of them. It is a law of the definitions and
@@ -31,4 +32,24 @@ pub fn clauses_agree()
 pub fn instance_terms_hold()
     ensures instance { InstanceTermsHold }
     ensures start { StartTermsHold }
+{}
+
+/// With the fresh constants each sort has a term at the start; and what is put behind the symbols of well sorted clauses, one
+/// constant for each sort without a ground term, are the fresh constants. It is a law of the definitions and does nothing.
+pub fn starts_are_inhabited()
+    ensures inhabited { StartsAreInhabited }
+    ensures fresh { FreshConstantsFit }
+{}
+
+/// Rounds come to an end, so the terms of an added instance over representatives are reached; and where the test makes a
+/// literal of it true, it is true in the candidate. It is a law of the definitions and does nothing.
+pub fn instances_are_reached()
+    ensures reached { InstancesAreReached }
+    ensures added { AddedAreTrue }
+{}
+
+/// The candidate and its tables have one sum of sizes, and are alike in what fails and in which added instances are true. It
+/// is a law of the definitions and does nothing.
+pub fn tables_read_alike()
+    ensures { TablesReadAlike }
 {}

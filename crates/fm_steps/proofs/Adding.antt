@@ -65,7 +65,7 @@ learnt_added : (n : ℕ) (lits : Clause) (l : Lit) (level : ℕ) (steps : Steps)
 learnt_added n lits l level [] s = refl
 learnt_added n lits l level (step ∷ steps) s = refl
 
-abbrev TermsGrow : State → State → Type 0
+abbrev pub TermsGrow : State → State → Type 0
 TermsGrow s t = IsFront s.held.terms t.held.terms
 
 same_terms : (s t : State) → t.held.terms ≡ s.held.terms → TermsGrow s t
@@ -96,7 +96,7 @@ instance_added p s n clause env sorted w there typed =
       stands = record { known = all_known ls s.held.atoms; has = Has-end s.clauses (map (lit_in (with_atoms s.held.atoms ls)) ls) };
     }
 
-row_adds : (p : Problem) (b : Budget) (s : State) (k : Known) (o : Offer) (t : State) → IsSorted p → IsWellHeld p s → Row p b s k o t → TermsGrow s t × Adds p s t
+pub row_adds : (p : Problem) (b : Budget) (s : State) (k : Known) (o : Offer) (t : State) → IsSorted p → IsWellHeld p s → Row p b s k o t → TermsGrow s t × Adds p s t
 row_adds p b s k (Offer.Learn n) t sorted w r = (subst (TermsGrow s) (sym r.after) (learnt_terms n r.lits r.lit r.level r.steps s), same_added p s t (ap (λ (u : State). u.added) r.after ∙ learnt_added n r.lits r.lit r.level r.steps s))
 row_adds p b s k (Offer.Unit' n) t sorted w r = (same_terms s t (ap (λ (u : State). u.held.terms) r.after), same_added p s t (ap (λ (u : State). u.added) r.after))
 row_adds p b s k (Offer.Take e) t sorted w r = (same_terms s t (ap (λ (u : State). u.held.terms) r.after), same_added p s t (ap (λ (u : State). u.added) r.after))

@@ -163,7 +163,7 @@ constants_good p (f ∷ fs) terms e good =
     let t : Term = record { symbol = f; args = [] } in
     constants_good p fs (with_term terms t) q.1 (good_with_term p.sig terms t good (constant_there p.sig [] terms (slice_get p.sig.ranks f) q.0))
 
-constants_front : (fs : List ℕ) (terms : List Term) → IsFront terms (constants_grown fs terms)
+pub constants_front : (fs : List ℕ) (terms : List Term) → IsFront terms (constants_grown fs terms)
 constants_front [] terms = front-refl terms
 constants_front (f ∷ fs) terms = let t : Term = record { symbol = f; args = [] } in front-trans terms (with_term terms t) _ (front-with_term terms t) (constants_front fs (with_term terms t))
 

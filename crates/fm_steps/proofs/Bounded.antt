@@ -114,7 +114,7 @@ no_unit : (n : ℕ) (o : Option Lit) → unit_at n o ≡ [] → o ≡ None
 no_unit n None e = refl
 no_unit n (Some l) e = absurd (cc e)
 
-not_unit : (es : List Entry) (n : ℕ) (cs : List Clause) (i : ℕ) (c : Clause) → units_from n es cs ≡ [] → slice_get cs i ≡ Some c → unit_of es c ≡ None
+pub not_unit : (es : List Entry) (n : ℕ) (cs : List Clause) (i : ℕ) (c : Clause) → units_from n es cs ≡ [] → slice_get cs i ≡ Some c → unit_of es c ≡ None
 not_unit es n [] i c e at = absurd (cc at)
 not_unit es n (d ∷ cs) zero c e at = let same : d ≡ c = cc at in subst (λ (x : Clause). unit_of es x ≡ None) same (no_unit n (unit_of es d) (append_none (unit_at n (unit_of es d)) (units_from (n + 1) es cs) e).0)
 not_unit es n (d ∷ cs) (suc i) c e at = not_unit es (n + 1) cs i c (append_none (unit_at n (unit_of es d)) (units_from (n + 1) es cs) e).1 at

@@ -10,11 +10,12 @@ use Rattle.fm_bank.specs.declared.atom.Atom.{Atom}
 use Rattle.fm_bank.specs.declared.literal.Literal.{Literal}
 use Rattle.fm_steps.specs.Content.{is_size}
 use Rattle.fm_steps.specs.Lemmas.{is_known, is_some_number}
-use Rattle.fm_steps.specs.Menu.{both_ways, bounded_decisions, clause_atoms, decisions_of, free_decision, free_decisions, is_wanted, or_else, pair_offers, size_decision, size_decisions, split_decisions, split_offers, splits_of}
+use Rattle.fm_steps.specs.Menu.{both_ways, bounded_decisions, clause_atoms, decisions_of, free_decision, free_decisions, is_wanted, menu_of, or_else, pair_offers, size_decision, size_decisions, split_decisions, split_offers, splits_of}
+use Rattle.fm_steps.specs.Picks.{Known}
 use Rattle.fm_steps.specs.Ready.{DecideIsReady, SplitIsReady}
 use Rattle.fm_steps.specs.Rows.{Offer}
 use Rattle.fm_steps.specs.Sizes.{card, is_unvalued, least_open, lit}
-use Rattle.fm_steps.specs.State.{Pick, State}
+use Rattle.fm_steps.specs.State.{Pick, Problem, State}
 use Rattle.fm_steps.proofs.Lists.{Has-append}
 use Rattle.fm_steps.proofs.Menus.{at_five}
 
@@ -101,3 +102,53 @@ pub split_ready : SplitIsReady
 split_ready a b p s k h =
     let f = fits s (Offer.Split a b) (at_five p s k (Offer.Split a b) (omega arith) (omega arith) h) in
     (f.0, not_found (find_atom s.held.atoms (equality a b)) f.1)
+
+-- and it is offered by a test
+abbrev IsDecision : Offer → Type 0
+IsDecision (Offer.Decide l) = Unit {0}
+IsDecision o = ⊥
+
+abbrev AreDecisions : List Offer → Type 0
+AreDecisions xs = (o : Offer) → Has xs o → IsDecision o
+
+one_decides : (l : Literal) → AreDecisions (Offer.Decide l ∷ [])
+one_decides l o (inl e) = subst IsDecision e tt
+one_decides l o (inr h) = absurd h
+
+two_decide : (k l : Literal) → AreDecisions (Offer.Decide k ∷ (Offer.Decide l ∷ []))
+two_decide k l o (inl e) = subst IsDecision e tt
+two_decide k l o (inr h) = one_decides l o h
+
+either_decide : (c : Bool) (xs ys : List Offer) → AreDecisions xs → AreDecisions ys → AreDecisions (cond c xs ys)
+either_decide true xs ys h g = h
+either_decide false xs ys h g = g
+
+none_decide : AreDecisions []
+none_decide o h = absurd h
+
+flat_decide : {X : Type 0} (f : X → List Offer) (xs : List X) → ((x : X) → AreDecisions (f x)) → AreDecisions (flat_map f xs)
+flat_decide f [] h o q = absurd q
+flat_decide f (x ∷ xs) h o q = elim (Has-append (f x) (flat_map f xs) o q) [ inl a ↦ h x o a | inr b ↦ flat_decide f xs h o b ]
+
+else_decide : (xs ys : List Offer) → AreDecisions xs → AreDecisions ys → AreDecisions (or_else xs ys)
+else_decide [] ys h g = g
+else_decide (x ∷ xs) ys h g = h
+
+both_decide : (s : State) (n : ℕ) (o : Option Atom) → AreDecisions (both_ways s n o)
+both_decide s n None = none_decide
+both_decide s n (Some a) = either_decide (is_unvalued s a && is_wanted s n) _ [] (two_decide (lit false a) (lit true a)) none_decide
+
+all_decide : (s : State) → AreDecisions (decisions_of s)
+all_decide s =
+    let atoms = flat_decide (λ n. both_ways s n (slice_get s.held.atoms n)) (range_with_len 0 (length s.held.atoms)) (λ n. both_decide s n (slice_get s.held.atoms n)) in
+    let sizes = flat_decide (size_decision s) (range_with_len 0 s.held.sig.sorts) (λ u. either_decide (is_unvalued s (card u (least_open s u))) _ [] (one_decides (lit true (card u (least_open s u)))) none_decide) in
+    let frees = flat_decide (free_decision s) s.held.atoms (λ a. either_decide (is_size a && is_unvalued s a) _ [] (one_decides (lit false a)) none_decide) in
+    either_decide s.free (or_else (free_decisions s) (clause_atoms s)) (bounded_decisions s) (else_decide (free_decisions s) (clause_atoms s) frees atoms)
+    (either_decide (is_unvalued s (Atom.Bound s.bound)) _ (or_else (size_decisions s) (clause_atoms s)) (one_decides (lit true (Atom.Bound s.bound))) (else_decide (size_decisions s) (clause_atoms s) sizes atoms))
+
+pub split_in : (p : Problem) (s : State) (k : Known) (a b : ℕ) → Has (menu_of p s k) (Offer.Split a b) → Has (splits_of s) (Offer.Split a b)
+split_in p s k a b h =
+    elim (at_five p s k (Offer.Split a b) (omega arith) (omega arith) h) [
+      | inl q ↦ absurd (all_decide s (Offer.Split a b) q)
+      | inr q ↦ q
+    ]

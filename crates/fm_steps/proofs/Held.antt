@@ -201,7 +201,7 @@ module _ (p : Problem) (s : State) (w : IsWellHeld p s) where
   splits : AllFit (splits_of s)
   splits = when s.free [] (flat_map (split_offers s) s.picks) (λ e. none) (λ f. mapped (split_offers s) s.picks (λ o q. split o))
 
-  decided : (k : Known) (l : Literal) → Has (menu_of p s k) (Offer.Decide l) → DecidesAnAtom s (Offer.Decide l)
+  pub decided : (k : Known) (l : Literal) → Has (menu_of p s k) (Offer.Decide l) → DecidesAnAtom s (Offer.Decide l)
   decided k l h = elim (at_five p s k (Offer.Decide l) (omega arith) (omega arith) h) [ inl q ↦ decisions (Offer.Decide l) q | inr q ↦ splits (Offer.Decide l) q ]
 
   carried_one : (b : Bool) (x y : Offer) → DecidesAnAtom s x → DecidesAnAtom s y → DecidesAnAtom s (cond b x y)

@@ -253,7 +253,7 @@ pick_plain : (o : Option Pick) (l : Literal) → Has (pick_literals o) l → is_
 pick_plain None l h = absurd h
 pick_plain (Some pick) l h = clique_plain pick.pair pick.terms l h
 
-picks_plain : (ps : List (Option Pick)) (l : Literal) → Has (flat_map pick_literals ps) l → is_size l.atom ≡ false
+pub picks_plain : (ps : List (Option Pick)) (l : Literal) → Has (flat_map pick_literals ps) l → is_size l.atom ≡ false
 picks_plain ps l h = let q = in_flat pick_literals l ps h in pick_plain q.0 l q.2
 
 settled_in_row : (p : Problem) (mid t : State) → SizesAreInRow p mid → Settles mid t → SizesAreInRow p t
@@ -336,7 +336,7 @@ start_in_row p s b begun last stays = record {
 }
 
 -- what the menu offers to decide is known, or the next bound of a sort
-in_numbers : (s : State) (v : Bool) (u k : ℕ) → is_known s (card u k) ≡ true → holds s v (card u k) ≡ true → Has (numbers_with s v u) k
+pub in_numbers : (s : State) (v : Bool) (u k : ℕ) → is_known s (card u k) ≡ true → holds s v (card u k) ≡ true → Has (numbers_with s v u) k
 in_numbers s v u k known h =
     let f : Atom → List ℕ = λ a. cond (holds s v a) (number_in u a) [] in
     let here : f (card u k) ≡ k ∷ [] = ap (λ (b : Bool). cond b (cond (u == u) (k ∷ []) []) []) h ∙ ap (λ (b : Bool). cond b (k ∷ []) []) (eq-eqb u u refl) in
@@ -385,13 +385,13 @@ greatest_over : (n : ℕ) (o : Option ℕ) (k m : ℕ) → o ≡ Some m → k �
 greatest_over n None k m e le = absurd (cc e)
 greatest_over n (Some j) k m e le = let same : j ≡ m = cc e in omega (arith, same, le)
 
-greatest_above : (ns : List ℕ) (k : ℕ) → Has ns k → (m : ℕ) × (greatest ns ≡ Some m) × (k ≤ m)
+pub greatest_above : (ns : List ℕ) (k : ℕ) → Has ns k → (m : ℕ) × (greatest ns ≡ Some m) × (k ≤ m)
 greatest_above [] k h = absurd h
 greatest_above (n ∷ ns) k (inl e) = (greatest_with n (greatest ns), refl, (let g = greatest_most n (greatest ns) in omega (arith, g, e)))
 greatest_above (n ∷ ns) k (inr h) = let r = greatest_above ns k h in (greatest_with n (greatest ns), refl, greatest_over n (greatest ns) k r.0 r.1 r.2)
 
 -- every sort has a greatest false bound, and what they add up to
-bounds_there : (s : State) (v n : ℕ) → ((u : ℕ) → v ≤ u → u < v + n → (m : ℕ) × (greatest_false s u ≡ Some m)) → (ks : List ℕ) × (bounds_from s v n ≡ Some ks)
+pub bounds_there : (s : State) (v n : ℕ) → ((u : ℕ) → v ≤ u → u < v + n → (m : ℕ) × (greatest_false s u ≡ Some m)) → (ks : List ℕ) × (bounds_from s v n ≡ Some ks)
 bounds_there s v zero h = ([], refl)
 bounds_there s v (suc n) h =
     let g = h v (omega arith) (omega arith) in
@@ -413,7 +413,7 @@ one_within s v (suc n) ks u m e low high g =
     ])
 
 -- a sum lemma that is due is false
-sum_fails : (s : State) (v n : ℕ) (ks : List ℕ) → bounds_from s v n ≡ Some ks → holds s true (Atom.Bound s.bound) ≡ true → open_literals s (sum_literals s v ks) ≡ []
+pub sum_fails : (s : State) (v n : ℕ) (ks : List ℕ) → bounds_from s v n ≡ Some ks → holds s true (Atom.Bound s.bound) ≡ true → open_literals s (sum_literals s v ks) ≡ []
 sum_fails s v zero ks e b =
     let none : [] ≡ ks = cc e in
     subst (λ (js : List ℕ). open_literals s (sum_literals s v js) ≡ []) none (ap (λ (c : Bool). cond (not c) (lit false (Atom.Bound s.bound) ∷ []) []) b)
@@ -426,22 +426,22 @@ pub take_none : (xs : List Offer) → take 1 xs ≡ [] → xs ≡ []
 take_none [] e = refl
 take_none (x ∷ xs) e = absurd (cc e)
 
-sum_part : (s : State) (k : Known) → first_lemmas s k ≡ [] → sum_offers_at s (bounds_from s 0 s.held.sig.sorts) ≡ []
+pub sum_part : (s : State) (k : Known) → first_lemmas s k ≡ [] → sum_offers_at s (bounds_from s 0 s.held.sig.sorts) ≡ []
 sum_part s k e =
     let a = (append_none (take 1 (lemmas_of s k Reader.Congruence)) _ e).1 in
     let c = (append_none (take 1 (lemmas_of s k Reader.Regions)) _ a).1 in
     let d = (append_none (take 1 (lemmas_of s k Reader.Sum)) _ c).0 in
     (append_none (sum_offers_at s (bounds_from s 0 s.held.sig.sorts)) _ (take_none (lemmas_of s k Reader.Sum) d)).0
 
-offer_lemma : (s : State) (r : Reader) (d : Due) (ls : List Literal) (os : List Literal) → os ≡ [] → by_open s r d os ≡ [] → ⊥
+pub offer_lemma : (s : State) (r : Reader) (d : Due) (ls : List Literal) (os : List Literal) → os ≡ [] → by_open s r d os ≡ [] → ⊥
 offer_lemma s r d ls [] e f = absurd (cc f)
 offer_lemma s r d ls (o ∷ os) e f = absurd (cc e)
 
-not_due : (b : Bool) (s : State) (ks : List ℕ) → open_literals s (sum_literals s 0 ks) ≡ [] → cond b (offer_for s Reader.Sum Due.SumBound (sum_literals s 0 ks)) [] ≡ [] → b ≡ false
+pub not_due : (b : Bool) (s : State) (ks : List ℕ) → open_literals s (sum_literals s 0 ks) ≡ [] → cond b (offer_for s Reader.Sum Due.SumBound (sum_literals s 0 ks)) [] ≡ [] → b ≡ false
 not_due true s ks e f = absurd (offer_lemma s Reader.Sum Due.SumBound (sum_literals s 0 ks) (open_literals s (sum_literals s 0 ks)) e f)
 not_due false s ks e f = refl
 
-within_bound : (b c : Bool) → (b && c) ≡ false → c ≡ true → b ≡ false
+pub within_bound : (b c : Bool) → (b && c) ≡ false → c ≡ true → b ≡ false
 within_bound true true e f = absurd (true≢false e)
 within_bound true false e f = absurd (false≢true f)
 within_bound false c e f = refl
@@ -519,7 +519,7 @@ module _ (p : Problem) (s : State) (k : Known) (h : SizesAreInRow p s) (bounded 
   present = let l = h.least in (h.bounds s.bound).1 (omega (arith, l), omega arith)
 
   -- the bound has a value: it is true, and the start's lemmas are used up
-  is_decided : s.free ≡ false → is_unvalued s (Atom.Bound s.bound) ≡ false → BoundIsDecided s
+  pub is_decided : s.free ≡ false → is_unvalued s (Atom.Bound s.bound) ≡ false → BoundIsDecided s
   is_decided f closed =
       elim (bound_open p s bounded f) [
         | inl free ↦ absurd (true≢false (sym free ∙ closed))
@@ -529,19 +529,19 @@ module _ (p : Problem) (s : State) (k : Known) (h : SizesAreInRow p s) (bounded 
         ]
       ]
 
-  is_large : BoundIsDecided s → AreNotSmaller p s
+  pub is_large : BoundIsDecided s → AreNotSmaller p s
   is_large d =
       let most = level_most 0 s.trail.entries d.place d.entry bounded.good.lawful.trail.levels d.at in
       let first = d.first in
       bounded.large (omega (arith, most, first))
 
-  bound_true : (d : BoundIsDecided s) → holds s true (Atom.Bound s.bound) ≡ true
+  pub bound_true : (d : BoundIsDecided s) → holds s true (Atom.Bound s.bound) ≡ true
   bound_true d =
       let f = false_by s.trail.entries d.place d.entry bounded.good.lawful.trail.once d.at in
       let sign : not (not d.entry.lit.positive) ≡ true = ap (λ (b : Bool). not (not b)) d.decides.positive in
       subst (λ (o : Option ℕ). is_value (option_and_then (value_by s.trail.entries) o) true ≡ true) (sym d.decides.bound) (subst (λ (b : Bool). is_value (value_of s.trail.entries d.entry.lit.atom) b ≡ true) sign f)
 
-  zero_false : (d : BoundIsDecided s) (u : ℕ) → u < p.sig.sorts → holds s false (card u 0) ≡ true
+  pub zero_false : (d : BoundIsDecided s) (u : ℕ) → u < p.sig.sorts → holds s false (card u 0) ≡ true
   zero_false d u lt = refuted_holds s (card u 0) (find_atom s.held.atoms (card u 0)) refl bounded.good.lawful.trail ((is_large d).elements u lt)
 
   false_known : (a : Atom) → holds s false a ≡ true → is_known s a ≡ true
@@ -562,10 +562,10 @@ module _ (p : Problem) (s : State) (k : Known) (h : SizesAreInRow p s) (bounded 
       let most = g.2 in
       omega (arith, above, low, most)
 
-  abbrev test : ℕ → ℕ → Bool
+  abbrev pub test : ℕ → ℕ → Bool
   test u i = not (holds s false (card u (i + 1)))
 
-  abbrev place : ℕ → ℕ
+  abbrev pub place : ℕ → ℕ
   place u = position_or_len (test u) (range_with_len 0 (length s.held.atoms))
 
   false_before : (u i : ℕ) → i < place u → holds s false (card u (i + 1)) ≡ true
@@ -576,7 +576,7 @@ module _ (p : Problem) (s : State) (k : Known) (h : SizesAreInRow p s) (bounded 
       let at : get_or xs i 0 ≡ i = (let e = range_is 0 (length s.held.atoms) i 0 (omega (arith, lt, most, long)) in omega (arith, e)) in
       subst (λ n. holds s false (card u (n + 1)) ≡ true) at (not_back (holds s false (card u (get_or xs i 0 + 1))) (fails_before_first (test u) xs i 0 lt))
 
-  false_up_to : (d : BoundIsDecided s) (u j : ℕ) → u < p.sig.sorts → j ≤ place u → holds s false (card u j) ≡ true
+  pub false_up_to : (d : BoundIsDecided s) (u j : ℕ) → u < p.sig.sorts → j ≤ place u → holds s false (card u j) ≡ true
   false_up_to d u zero lt le = zero_false d u lt
   false_up_to d u (suc j) lt le = let z : j + 1 ≡ suc j = omega arith in subst (λ n. holds s false (card u n) ≡ true) z (false_before u j (omega (arith, le)))
 
@@ -675,7 +675,7 @@ run_ordered : (p : Problem) (b : Budget) (s : State) (es : List Event) (t : Stat
 run_ordered p b s [] t h r = subst (IsOrdered p) (sym r) h
 run_ordered p b s (e ∷ es) t h r = run_ordered p b r.0 es t (step_ordered p b s e r.0 h r.1) r.3
 
-begun_ordered : (p : Problem) (s : State) → IsStart p s → IsOrdered p s
+pub begun_ordered : (p : Problem) (s : State) → IsStart p s → IsOrdered p s
 begun_ordered p s st =
     let begun : AreBegun p.sig.sorts s.held.atoms = subst (λ (u : State). AreBegun p.sig.sorts u.held.atoms) (sym st.after) (begun_more p.sig.sorts (first_state p).held.atoms (flat_map pick_literals st.picks) (first_begun p) (λ l q size. absurd (false≢true (sym (picks_plain st.picks l q) ∙ size)))) in
     let last : Knows s.held.atoms (Atom.Bound p.sig.sorts) = subst (λ (u : State). Knows u.held.atoms (Atom.Bound p.sig.sorts)) (sym st.after) (known_then (flat_map pick_literals st.picks) (first_state p).held.atoms (Atom.Bound p.sig.sorts) (bound_known p)) in

@@ -28,6 +28,9 @@ pub mod Staying
 pub mod Bounded
 pub mod InRow
 pub mod Offered
+pub mod Distinct
+pub mod Rising
+pub mod Repeats
 pub mod Shown
 pub mod Numbered
 pub mod Sounding
@@ -38,3 +41,16 @@ pub mod Fresh
 pub mod Falling
 pub mod Ending
 pub mod Measured
+pub mod Contents
+pub mod Truths
+pub mod Pigeons
+pub mod Chosen
+pub mod Classes
+pub mod Exact
+pub mod Learnt
+pub mod Going
+pub mod Large
+pub mod Settled
+pub mod Asked
+pub mod Paid
+pub mod Fitting

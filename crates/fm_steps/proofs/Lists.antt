@@ -72,3 +72,8 @@ pub Has-contains : {X : Type 0} (xs : List X) (x : X) → Has xs x → Contains 
 Has-contains [] x h = absurd h
 Has-contains (y ∷ ys) x (inl e) = (0, omega arith, e)
 Has-contains (y ∷ ys) x (inr h) = let r = Has-contains ys x h in let lt = r.1 in (suc r.0, omega (arith, lt), r.2)
+
+pub contains_has : {X : Type 0} (xs : List X) (x : X) → Contains xs x → Has xs x
+contains_has [] x c = let lt = c.1 in absurd (omega (arith, lt))
+contains_has (y ∷ ys) x (zero, lt, e) = inl e
+contains_has (y ∷ ys) x (suc n, lt, e) = inr (contains_has ys x (n, omega (arith, lt), e))

@@ -1,5 +1,5 @@
 -- The groups of the menu, by the kinds of their offers, and what an offer of it says of the state.
-use Rattle.std.proofs.Common.{◌≡◌, ℕ, ◌+◌, ◌<◌, ◌≤◌, ◌⊎◌, Bool, true, false, not, ◌&&◌, cond, nat_lt, List, [], ◌∷◌, ◌++◌, length, take, slice_get, Some, None, inl, inr, refl, subst, arith}
+use Rattle.std.proofs.Common.{◌≡◌, ℕ, ◌+◌, ◌<◌, ◌≤◌, ◌⊎◌, Bool, true, false, not, ◌&&◌, cond, nat_lt, List, [], ◌∷◌, ◌++◌, length, take, slice_get, Some, None, inl, inr, refl, ap, subst, arith}
 use Rattle.std.specs.Prelude.{Option}
 use Rattle.std.specs.List.{flat_map, range_with_len}
 use Rattle.fm_base.specs.Resolution.{Has}
@@ -21,12 +21,12 @@ use Rattle.fm_steps.specs.State.{Clause, Pick, Problem, State}
 use Rattle.fm_steps.proofs.Lists.{Has-append, Has-take, only_one}
 
 -- the group of an offer; a decision may stand in the next one too
-abbrev word_kind : Word → ℕ
+abbrev pub word_kind : Word → ℕ
 word_kind Word.Sat = 7
 word_kind Word.Unsat = 1
 word_kind Word.Unknown = 8
 
-abbrev kind : Offer → ℕ
+abbrev pub kind : Offer → ℕ
 kind (Offer.Learn n) = 1
 kind (Offer.Unit' n) = 2
 kind (Offer.Take r) = 2
@@ -309,3 +309,32 @@ module _ (p : Problem) (s : State) (k : Known) where
   -- where more than the first group is offered no clause is false
   pub no_conflict : (o : Offer) → 1 < kind o → Has (menu_of p s k) o → conflicts_here ≡ []
   no_conflict o more h = (past 1 1 conflicts_here rest_two o (conflicts 0 s.trail.entries s.clauses) more (Has-take 64 (offers_of p s k) o h)).0
+
+  -- where a lemma or more is offered no clause is false or unit, and all is read
+  pub quiet_two : (o : Offer) → 2 < kind o → Has (menu_of p s k) o → (conflicts_here ≡ []) × (second ≡ [])
+  quiet_two o more h =
+      let a = past 1 1 conflicts_here rest_two o (conflicts 0 s.trail.entries s.clauses) (omega (arith, more)) (Has-take 64 (offers_of p s k) o h) in
+      (a.0, (past 2 2 second rest_three o early_two more a.1).0)
+
+  -- every offer is of one of the groups
+  pub at_most_seven : (o : Offer) → Has (menu_of p s k) o → kind o ≤ 7
+  at_most_seven o h =
+      elim (else_cases conflicts_here rest_two o (Has-take 64 (offers_of p s k) o h)) [
+        | inl q ↦ (let r = (conflicts 0 s.trail.entries s.clauses o q).1 in omega (arith, r))
+        | inr q ↦ (late_two o q.1).1
+      ]
+
+  -- and there is one
+  some_first : (xs ys : List Offer) → (y : Offer) × (more : List Offer) × (ys ≡ y ∷ more) → (x : Offer) × (more : List Offer) × (or_else xs ys ≡ x ∷ more)
+  some_first [] ys h = h
+  some_first (x ∷ xs) ys h = (x, xs, refl)
+
+  pub not_empty : (o : Offer) × (slice_get (menu_of p s k) 0 ≡ Some o)
+  not_empty =
+      let six = some_first (splits_of s) (last_offer p s k ∷ []) (last_offer p s k, [], refl) in
+      let five = some_first (decisions_of s) rest_six six in
+      let four = some_first (turns_of s) rest_five five in
+      let three = some_first (first_lemmas s k) rest_four four in
+      let two = some_first second rest_three three in
+      let one = some_first conflicts_here rest_two two in
+      (one.0, ap (λ (xs : List Offer). slice_get (take 64 xs) 0) one.2)

@@ -150,7 +150,7 @@ get_place (x ∷ xs) a h =
 pub number_size : (ls : List Literal) (atoms : List Atom) (k : Literal) → Has ls k → size_at (with_atoms atoms ls) (atom_number (with_atoms atoms ls) k.atom) ≡ is_size k.atom
 number_size ls atoms k h = ap is_size_in (get_place (with_atoms atoms ls) k.atom (all_there ls atoms k h))
 
-get_within : (xs ys : List Atom) (n : ℕ) → n < length xs → slice_get (xs ++ ys) n ≡ slice_get xs n
+pub get_within : (xs ys : List Atom) (n : ℕ) → n < length xs → slice_get (xs ++ ys) n ≡ slice_get xs n
 get_within [] ys n lt = absurd (omega arith)
 get_within (x ∷ xs) ys zero lt = refl
 get_within (x ∷ xs) ys (suc n) lt = get_within xs ys n (omega arith)

@@ -50,7 +50,7 @@ least_step n (Some k) m e =
       | inr ge ↦ inr (ap Some (omega (arith, ge, e)))
     ]
 
-least_in : (ns : List ℕ) (m : ℕ) → least ns ≡ Some m → Has ns m
+pub least_in : (ns : List ℕ) (m : ℕ) → least ns ≡ Some m → Has ns m
 least_in [] m e = absurd (cc e)
 least_in (n ∷ ns) m e =
     elim (least_step n (least ns) m (cc e)) [
@@ -93,7 +93,7 @@ pub reached_hold : (p : Problem) (b : Budget) (events : List Event) (s : State) 
 reached_hold p b events s h = run_hold p b h.first events s (settled_hold _ h.first h.start) h.run
 
 -- in the free phase no size atom is true
-some_true : (o : Option Bool) → is_value o true ≡ true → o ≡ Some true
+pub some_true : (o : Option Bool) → is_value o true ≡ true → o ≡ Some true
 some_true None e = absurd (false≢true e)
 some_true (Some true) e = refl
 some_true (Some false) e = absurd (false≢true e)
@@ -110,7 +110,7 @@ none_true s a sizes free size h =
     false≢true (sym (sizes d.place d.entry d.at at d.sign).1 ∙ free)
 
 -- nothing is due where no lemma is offered
-cond_none : (b : Bool) (x : Offer) → cond b (x ∷ []) [] ≡ [] → b ≡ false
+pub cond_none : (b : Bool) (x : Offer) → cond b (x ∷ []) [] ≡ [] → b ≡ false
 cond_none true x e = absurd (cc e)
 cond_none false x e = refl
 
@@ -119,16 +119,16 @@ values_none true d x y e = absurd (cc e)
 values_none false true x y e = absurd (cc e)
 values_none false false x y e = (refl, refl)
 
-value_none : (s : State) (k : Known) (a : Atom) (v : Bool) → values_at s k a ≡ [] → is_unvalued s a ≡ true → decides k.congruence a v ≡ true → ⊥
+pub value_none : (s : State) (k : Known) (a : Atom) (v : Bool) → values_at s k a ≡ [] → is_unvalued s a ≡ true → decides k.congruence a v ≡ true → ⊥
 value_none s k a true e u d = true≢false (sym (and_from (is_unvalued s a) (decides k.congruence a true) u d) ∙ (values_none (is_unvalued s a && decides k.congruence a true) (is_unvalued s a && decides k.congruence a false) _ _ e).0)
 value_none s k a false e u d = true≢false (sym (and_from (is_unvalued s a) (decides k.congruence a false) u d) ∙ (values_none (is_unvalued s a && decides k.congruence a true) (is_unvalued s a && decides k.congruence a false) _ _ e).1)
 
-flat_none : {X : Type 0} (f : X → List Offer) (xs : List X) (x : X) → flat_map f xs ≡ [] → Has xs x → f x ≡ []
+pub flat_none : {X : Type 0} (f : X → List Offer) (xs : List X) (x : X) → flat_map f xs ≡ [] → Has xs x → f x ≡ []
 flat_none f [] x e h = absurd h
 flat_none f (y ∷ ys) x e (inl s) = ap f (sym s) ∙ (append_none (f y) (flat_map f ys) e).0
 flat_none f (y ∷ ys) x e (inr h) = flat_none f ys x (append_none (f y) (flat_map f ys) e).1 h
 
-congruence_part : (s : State) (k : Known) → first_lemmas s k ≡ [] → congruence_offers s k ≡ []
+pub congruence_part : (s : State) (k : Known) → first_lemmas s k ≡ [] → congruence_offers s k ≡ []
 congruence_part s k e = take_none (lemmas_of s k Reader.Congruence) (append_none (take 1 (lemmas_of s k Reader.Congruence)) _ e).0
 
 first_open : (s : State) (a b : Atom) (l : Literal) → SizesAreAssumed s → s.free ≡ true → is_size a ≡ true → is_unvalued s a ≡ false → IsUnitLemma s (lit false a ∷ (lit true b ∷ [])) l → ⊥
@@ -240,7 +240,7 @@ free_none : (f : Bool) (xs ys : List Offer) → f ≡ true → cond f xs ys ≡ 
 free_none true xs ys e h = h
 free_none false xs ys e h = absurd (false≢true e)
 
-else_none : (xs ys : List Offer) → or_else xs ys ≡ [] → (xs ≡ []) × (ys ≡ [])
+pub else_none : (xs ys : List Offer) → or_else xs ys ≡ [] → (xs ≡ []) × (ys ≡ [])
 else_none [] ys e = (refl, e)
 else_none (x ∷ xs) ys e = absurd (cc e)
 

@@ -1,14 +1,14 @@
 -- What is offered as a lemma is due.
 use Rattle.std.proofs.Common.{◌≡◌, ◌≢◌, ℕ, zero, suc, ◌+◌, ◌-◌, ◌⊎◌, ◌&&◌, Bool, true, false, not, cond, List, [], ◌∷◌, ◌++◌, length, map, take, Some, None, inl, inr, refl, sym, ap, subst, ◌∙◌, arith}
 use Rattle.std.specs.Prelude.{Option, option_and_then, slice_get}
-use Rattle.std.specs.List.{Contains, filter, flat_map, list_any, range_with_len}
+use Rattle.std.specs.List.{filter, flat_map, list_any, range_with_len}
 use Rattle.std.proofs.lemmas.Bool.{and_from, and_parts, cases_Bool, false≢true, not-false, or_cases, or_left, or_right}
 use Rattle.std.proofs.lemmas.List.{map-append}
-use Rattle.fm_base.specs.Resolution.{Has}
+use Rattle.fm_base.specs.Resolution.{AreDistinct, Has}
 use Rattle.fm_base.specs.declared.ids.Reader.{Reader}
 use Rattle.fm_base.proofs.Resolution.{mapped_has}
 use Rattle.fm_bank.specs.Closure.{AreApart, Follows, Shape, facts_of, no, object, yes}
-use Rattle.fm_bank.specs.Interning.{atom_number, find_atom}
+use Rattle.fm_bank.specs.Interning.{atom_number, find_atom, first_places}
 use Rattle.fm_bank.specs.Tests.{Tests}
 use Rattle.fm_bank.specs.declared.atom.Atom.{Atom}
 use Rattle.fm_bank.specs.declared.literal.Literal.{Literal}
@@ -29,14 +29,17 @@ use Rattle.fm_steps.specs.Rows.{Offer}
 use Rattle.fm_steps.specs.Sizes.{card, greatest_false, holds, is_unvalued, lit, numbers_with}
 use Rattle.fm_steps.specs.State.{Pick, Problem, State, read_by, value_by}
 use Rattle.fm_steps.proofs.Bounded.{reached_bounded}
+use Rattle.fm_steps.proofs.Distinct.{places_distinct}
 use Rattle.fm_steps.proofs.Due.{all_in, in_all}
 use Rattle.fm_steps.proofs.InRow.{greatest_in, has_known, holds_known, of_numbers, with_parts}
-use Rattle.fm_steps.proofs.Lists.{Has-append, Has-contains, Has-get, Has-take, all_has, only_one}
+use Rattle.fm_steps.proofs.Lists.{Has-append, Has-contains, Has-get, Has-take, all_has, contains_has, only_one}
 use Rattle.fm_steps.proofs.Menus.{at_three}
 use Rattle.fm_steps.proofs.Numbers.{get_place, known_any}
 use Rattle.fm_steps.proofs.Offered.{found_number, reached_hold}
+use Rattle.fm_steps.proofs.Repeats.{clique_distinct, order_distinct, shows_more, sum_distinct}
+use Rattle.fm_steps.proofs.Rising.{PicksRise, reached_rise}
 use Rattle.fm_steps.proofs.Runs.{runs_stay_held}
-use Rattle.fm_steps.proofs.Written.{has_place}
+use Rattle.fm_steps.proofs.Written.{has_place, placed_same}
 
 none_passes : {X : Type 0} (p : X → Bool) (xs : List X) (x : X) → filter p xs ≡ [] → Has xs x → p x ≡ false
 none_passes {X} p xs x e h =
@@ -53,11 +56,6 @@ not-not false = refl
 twice : (ls : List Literal) → opposites (opposites ls) ≡ ls
 twice [] = refl
 twice (l ∷ ls) = λ i. record { positive = not-not l.positive i; atom = l.atom } ∷ twice ls i
-
-contains_has : {X : Type 0} (xs : List X) (x : X) → Contains xs x → Has xs x
-contains_has [] x c = let lt = c.1 in absurd (omega (arith, lt))
-contains_has (y ∷ ys) x (zero, lt, e) = inl e
-contains_has (y ∷ ys) x (suc n, lt, e) = inr (contains_has ys x (n, omega (arith, lt), e))
 
 facts_more : (P P' : List (ℕ × ℕ)) (T T' F F' : List ℕ) (x : ℕ × ℕ) → Has (facts_of P T F) x → Has (facts_of (P' ++ P) (T' ++ T) (F' ++ F)) x
 facts_more P P' T T' F F' x h =
@@ -76,17 +74,17 @@ more_read : (shapes : List Shape) (l : Literal) (read : List Literal) (x y : ℕ
 more_read shapes l read x y h =
     more_follows shapes (facts_in read) shapes (facts_in (l ∷ read)) (λ z c. c) (λ z c. Has-contains (facts_in (l ∷ read)) z (facts_more (pairs_in true read) (equal_pair true l.positive l.atom) (terms_in true read) (predicate_term true l.positive l.atom) (terms_in false read) (predicate_term false l.positive l.atom) z (contains_has (facts_in read) z c))) x y h
 
-follows_sym : (shapes : List Shape) (facts : List (ℕ × ℕ)) (x y : ℕ) → Follows shapes facts x y → Follows shapes facts y x
+pub follows_sym : (shapes : List Shape) (facts : List (ℕ × ℕ)) (x y : ℕ) → Follows shapes facts x y → Follows shapes facts y x
 follows_sym shapes facts x y h R c = c.symmetric x y (h R c)
 
-follows_trans : (shapes : List Shape) (facts : List (ℕ × ℕ)) (x y z : ℕ) → Follows shapes facts x y → Follows shapes facts y z → Follows shapes facts x z
+pub follows_trans : (shapes : List Shape) (facts : List (ℕ × ℕ)) (x y z : ℕ) → Follows shapes facts x y → Follows shapes facts y z → Follows shapes facts x z
 follows_trans shapes facts x y z h k R c = c.transitive x y z (h R c) (k R c)
 
-fact_follows : (shapes : List Shape) (facts : List (ℕ × ℕ)) (x y : ℕ) → Has facts (x, y) → Follows shapes facts x y
+pub fact_follows : (shapes : List Shape) (facts : List (ℕ × ℕ)) (x y : ℕ) → Has facts (x, y) → Follows shapes facts x y
 fact_follows shapes facts x y h R c = all_has (λ (p : ℕ × ℕ). R p.0 p.1 ≡ true) facts (x, y) c.facts_hold h
 
 -- sides that are apart and joined make a clash
-apart_clash : (shapes : List Shape) (facts more : List (ℕ × ℕ)) (same : ℕ → ℕ → Bool) (a b : ℕ) → ((x y : ℕ) → Follows shapes facts x y → Follows shapes more x y) → ((x y : ℕ) → Follows shapes more x y → same x y ≡ true) → Follows shapes more (object a) (object b)
+pub apart_clash : (shapes : List Shape) (facts more : List (ℕ × ℕ)) (same : ℕ → ℕ → Bool) (a b : ℕ) → ((x y : ℕ) → Follows shapes facts x y → Follows shapes more x y) → ((x y : ℕ) → Follows shapes more x y → same x y ≡ true) → Follows shapes more (object a) (object b)
     → (ps : List (ℕ × ℕ)) → AreApart shapes facts ps a b → list_any (λ (p : ℕ × ℕ). same (object p.0) (object p.1)) ps ≡ true
 apart_clash shapes facts more same a b on tells ab [] h = absurd h
 apart_clash shapes facts more same a b on tells ab (p ∷ ps) (inl (inl q)) =
@@ -179,7 +177,7 @@ Promises s k (Offer.Lemma r d) = IsOfferedLemma s k r d (λ ls. is_false_lemma s
 Promises s k (Offer.Imply r d) = IsOfferedLemma s k r d (λ ls. (l : Literal) × IsUnitLemma s ls l)
 Promises s k o = Unit {0}
 
-module _ (p : Problem) (s : State) (k : Known) (is : IsKnown s k) (lawful : IsLawful p s) (held : IsWellHeld p s) (picks : PicksAreKnown s) (holding : PicksHold s) where
+module _ (p : Problem) (s : State) (k : Known) (is : IsKnown s k) (lawful : IsLawful p s) (held : IsWellHeld p s) (picks : PicksAreKnown s) (holding : PicksHold s) (rising : PicksRise s) where
   abbrev AllFit : List Offer → Type 0
   AllFit xs = (o : Offer) → Has xs o → Promises s k o
 
@@ -202,11 +200,12 @@ module _ (p : Problem) (s : State) (k : Known) (is : IsKnown s k) (lawful : IsLa
   mapped f (x ∷ xs) q = joined (f x) (flat_map f xs) (q x (inl refl)) (mapped f xs (λ y r. q y (inr r)))
 
   -- a lemma whose literals are given
-  module _ (r : Reader) (d : Due) (ls0 : List Literal) (known0 : are_known s ls0 ≡ true) (due0 : FalseOrUnit s ls0 → IsDue s k r d ls0) (only : (ls : List Literal) → IsDue s k r d ls → ls ≡ ls0) where
+  module _ (r : Reader) (d : Due) (ls0 : List Literal) (distinct0 : AreDistinct ls0) (known0 : are_known s ls0 ≡ true) (due0 : FalseOrUnit s ls0 → IsDue s k r d ls0) (only : (ls : List Literal) → IsDue s k r d ls → ls ≡ ls0) where
     promised : (Asks : List Literal → Type 0) → FalseOrUnit s ls0 → Asks ls0 → IsOfferedLemma s k r d Asks
     promised Asks f a = record {
       lits = ls0;
       due = due0 f;
+      distinct = distinct0;
       known = λ ls h. subst (λ (x : List Literal). are_known s x ≡ true) (sym (only ls h)) known0;
       asks = λ ls h. subst Asks (sym (only ls h)) a;
     }
@@ -239,12 +238,15 @@ module _ (p : Problem) (s : State) (k : Known) (is : IsKnown s k) (lawful : IsLa
   read_false l h = (read_fails p s lawful held Reader.Congruence l h).1
 
   clash_fit : has_clash (read_literals Reader.Congruence s) k.congruence ≡ true → Promises s k (Offer.Lemma Reader.Congruence Due.Clash)
-  clash_fit e = record {
-    lits = opposites (read_literals Reader.Congruence s);
-    due = record { clash = e; read = λ l h. h; shows = shows_clash s k is e };
-    known = λ ls h. in_all (λ (l : Literal). is_known s l.atom) ls (λ l q. read_known l (h.read l q));
-    asks = λ ls h. in_all (literal_fails s) ls (λ l q. read_false l (h.read l q));
-  }
+  clash_fit e =
+      let all = opposites (read_literals Reader.Congruence s) in
+      record {
+        lits = first_places [] all;
+        due = record { clash = e; read = λ l h. (placed_same all l).0 h; shows = shows_more s.held all (first_places [] all) (λ l h. (placed_same all l).1 h) (shows_clash s k is e) };
+        distinct = places_distinct all;
+        known = λ ls h. in_all (λ (l : Literal). is_known s l.atom) ls (λ l q. read_known l (h.read l q));
+        asks = λ ls h. in_all (literal_fails s) ls (λ l q. read_false l (h.read l q));
+      }
 
   other_read : (a : Atom) (v : Bool) (l : Literal) → (l ≡ lit v a) ⊎ Has (opposites (read_literals Reader.Congruence s)) l → l ≢ lit v a → literal_fails s l ≡ true
   other_read a v l (inl e) ne = absurd (ne e)
@@ -261,9 +263,12 @@ module _ (p : Problem) (s : State) (k : Known) (is : IsKnown s k) (lawful : IsLa
   value_fit : (a : Atom) (v : Bool) → Has s.held.atoms a → is_unvalued s a ≡ true → decides k.congruence a v ≡ true → Promises s k (Offer.Imply Reader.Congruence (Due.Value a v))
   value_fit a v has u e =
       let known = has_known s.held.atoms a has in
+      let all = lit v a ∷ opposites (read_literals Reader.Congruence s) in
+      let ls = first_places [] all in
       record {
-        lits = lit v a ∷ opposites (read_literals Reader.Congruence s);
-        due = record { known = known; unset = u; decided = e; has = inl refl; read = begins a v; shows = shows_value s k is a v e };
+        lits = ls;
+        due = record { known = known; unset = u; decided = e; has = (placed_same all (lit v a)).1 (inl refl); read = λ l h. begins a v l ((placed_same all l).0 h); shows = shows_more s.held all ls (λ l h. (placed_same all l).1 h) (shows_value s k is a v e) };
+        distinct = places_distinct all;
         known = λ ls h. in_all (λ (l : Literal). is_known s l.atom) ls (λ l q. value_known a v l known (h.read l q));
         asks = λ ls h. (lit v a, record { has = h.has; unset = u; others = λ l q ne. other_read a v l (h.read l q) ne });
       }
@@ -293,7 +298,7 @@ module _ (p : Problem) (s : State) (k : Known) (is : IsKnown s k) (lawful : IsLa
   clique_known u pick at pair = and_from (is_known s (card u (length pick.terms - 1))) _ (true_known (card u (length pick.terms - 1)) true (holding u pick at)) (in_all (λ (x : Literal). is_known s x.atom) (pair_literals pick.terms) (pairs_known u pick at pair))
 
   clique_of_fit : (u : ℕ) (pick : Pick) (o : Option (ℕ × ℕ)) → pick.pair ≡ o → slice_get s.picks u ≡ Some (Some pick) → AllFit (clique_offer_of s u pick.terms o)
-  clique_of_fit u pick None e at = offer_fit Reader.Regions (Due.Clique u) (clique_lemma u pick.terms) (clique_known u pick at e) (λ f. record { pick = pick; there = at; clique = e; is = refl }) (λ ls h. h.is ∙ ap (λ (x : Pick). clique_lemma u x.terms) (same_pick u pick h.pick at h.there))
+  clique_of_fit u pick None e at = offer_fit Reader.Regions (Due.Clique u) (clique_lemma u pick.terms) (clique_distinct u pick.terms (rising u pick at)) (clique_known u pick at e) (λ f. record { pick = pick; there = at; clique = e; is = refl }) (λ ls h. h.is ∙ ap (λ (x : Pick). clique_lemma u x.terms) (same_pick u pick h.pick at h.there))
   clique_of_fit u pick (Some q) e at = none
 
   clique_fit : (u : ℕ) (q : Option Pick) → slice_get s.picks u ≡ Some q → AllFit (clique_offer s u q)
@@ -321,7 +326,7 @@ module _ (p : Problem) (s : State) (k : Known) (is : IsKnown s k) (lawful : IsLa
   sum_fit None e = none
   sum_fit (Some ks) e =
       when (is_sum_due s (Some ks)) _ []
-      (λ due. offer_fit Reader.Sum Due.SumBound (sum_literals s 0 ks) (sum_known 0 s.held.sig.sorts ks e (true_known (Atom.Bound s.bound) true (and_parts _ (holds s true (Atom.Bound s.bound)) due).1)) (λ f. record { ks = ks; bounds = e; due = due; is = refl }) (λ ls h. h.is ∙ ap (sum_literals s 0) (same_bounds ks h.ks e h.bounds)))
+      (λ due. offer_fit Reader.Sum Due.SumBound (sum_literals s 0 ks) (sum_distinct s 0 ks) (sum_known 0 s.held.sig.sorts ks e (true_known (Atom.Bound s.bound) true (and_parts _ (holds s true (Atom.Bound s.bound)) due).1)) (λ f. record { ks = ks; bounds = e; due = due; is = refl }) (λ ls h. h.is ∙ ap (sum_literals s 0) (same_bounds ks h.ks e h.bounds)))
       (λ f. none)
 
   order_known : (a b : Atom) → (is_known s a && is_known s b) ≡ true → are_known s (lit false a ∷ (lit true b ∷ [])) ≡ true
@@ -330,13 +335,13 @@ module _ (p : Problem) (s : State) (k : Known) (is : IsKnown s k) (lawful : IsLa
   card_fit : (u j : ℕ) → AllFit (card_order_at s u j)
   card_fit u j =
       when (is_known s (card u j) && is_known s (card u (j + 1))) _ []
-      (λ e. let known = order_known (card u j) (card u (j + 1)) e in offer_fit Reader.Sum (Due.CardOrder u j) (card_order u j) known (λ f. record { is = refl; known = known; asks = f }) (λ ls h. h.is))
+      (λ e. let known = order_known (card u j) (card u (j + 1)) e in offer_fit Reader.Sum (Due.CardOrder u j) (card_order u j) (order_distinct (card u j) (card u (j + 1))) known (λ f. record { is = refl; known = known; asks = f }) (λ ls h. h.is))
       (λ e. none)
 
   bound_fit : (n : ℕ) → AllFit (bound_order_at s n)
   bound_fit n =
       when (is_known s (Atom.Bound n) && is_known s (Atom.Bound (n + 1))) _ []
-      (λ e. let known = order_known (Atom.Bound n) (Atom.Bound (n + 1)) e in offer_fit Reader.Sum (Due.BoundOrder n) (bound_order n) known (λ f. record { is = refl; known = known; asks = f }) (λ ls h. h.is))
+      (λ e. let known = order_known (Atom.Bound n) (Atom.Bound (n + 1)) e in offer_fit Reader.Sum (Due.BoundOrder n) (bound_order n) (order_distinct (Atom.Bound n) (Atom.Bound (n + 1))) known (λ f. record { is = refl; known = known; asks = f }) (λ ls h. h.is))
       (λ e. none)
 
   lemmas_fit : (r : Reader) → AllFit (lemmas_of s k r)
@@ -351,9 +356,9 @@ module _ (p : Problem) (s : State) (k : Known) (is : IsKnown s k) (lawful : IsLa
 pub lemma_is_due : LemmaIsDue
 lemma_is_due p b events s k r d sorted h is offered =
     let g = (reached_bounded p b events s h).good in
-    firsts_fit p s k is g.lawful (runs_stay_held p b events s sorted h) g.picks (reached_hold p b events s h) (Offer.Lemma r d) (at_three p s k (Offer.Lemma r d) refl offered)
+    firsts_fit p s k is g.lawful (runs_stay_held p b events s sorted h) g.picks (reached_hold p b events s h) (reached_rise p b events s h) (Offer.Lemma r d) (at_three p s k (Offer.Lemma r d) refl offered)
 
 pub imply_is_due : ImplyIsDue
 imply_is_due p b events s k r d sorted h is offered =
     let g = (reached_bounded p b events s h).good in
-    firsts_fit p s k is g.lawful (runs_stay_held p b events s sorted h) g.picks (reached_hold p b events s h) (Offer.Imply r d) (at_three p s k (Offer.Imply r d) refl offered)
+    firsts_fit p s k is g.lawful (runs_stay_held p b events s sorted h) g.picks (reached_hold p b events s h) (reached_rise p b events s h) (Offer.Imply r d) (at_three p s k (Offer.Imply r d) refl offered)

@@ -14,7 +14,7 @@ use Rattle.fm_steps.specs.Picks.{pick_literals}
 use Rattle.fm_steps.specs.Rows.{instance_literals}
 use Rattle.fm_steps.specs.Runs.{IsStart}
 use Rattle.fm_steps.specs.Sizes.{card, lit}
-use Rattle.fm_steps.specs.Start.{empty_state, first_state, with_elements, with_first_sum, with_ground_clauses}
+use Rattle.fm_steps.specs.Start.{empty_state, first_state, first_terms, with_elements, with_first_sum, with_ground_clauses}
 use Rattle.fm_steps.specs.State.{Problem, State, Trail, know_all, with_literals}
 use Rattle.fm_steps.proofs.Guarded.{AreGuards, adds_guarded, instance_ground, no_size, old_guarded}
 use Rattle.fm_steps.proofs.Known.{adds, knows}
@@ -32,9 +32,9 @@ record Rest : Type 0 where
 abbrev rest_of : State → Rest
 rest_of s = record { trail = s.trail; added = s.added; instances = s.instances; decisions = s.decisions; free = s.free; bound = s.bound }
 
-record IsClean (s : State) : Type 0 where
-  atoms : AtomsAreKnown s
-  guards : ClausesAreGuarded s
+pub record IsClean (s : State) : Type 0 where
+  pub atoms : AtomsAreKnown s
+  pub guards : ClausesAreGuarded s
 
 clean_with : (s : State) (ls : List Literal) → AreGuards ls → IsClean s → IsClean (with_literals ls s)
 clean_with s ls g h = record {
@@ -88,7 +88,7 @@ empty_clean p = record {
   guards = λ i c there. absurd (cc there);
 }
 
-first_clean : (p : Problem) → IsClean (first_state p)
+pub first_clean : (p : Problem) → IsClean (first_state p)
 first_clean p =
     let s1 : State = with_ground_clauses p.clauses (empty_state p) in
     let s2 : State = with_elements (range_with_len 0 p.sig.sorts) s1 in
@@ -188,3 +188,29 @@ start_sig p s st =
 
 pub start_added : (p : Problem) (s : State) → IsStart p s → s.added ≡ []
 start_added p s st = ap (λ (x : Rest). x.added) (begun p s st).rest
+
+-- the terms are those that are registered at the start
+terms_by : (b : Bool) (s : State) (ls : List Literal) → (cond b (with_literals ls s) s).held.terms ≡ s.held.terms
+terms_by true s ls = refl
+terms_by false s ls = refl
+
+ground_terms : (cs : List FirstOrderClause) (s : State) → (with_ground_clauses cs s).held.terms ≡ s.held.terms
+ground_terms [] s = refl
+ground_terms (c ∷ cs) s = ground_terms cs _ ∙ terms_by (length c.vars == 0) s (instance_literals s.held c [])
+
+elements_terms : (us : List ℕ) (s : State) → (with_elements us s).held.terms ≡ s.held.terms
+elements_terms [] s = refl
+elements_terms (u ∷ us) s = elements_terms us _
+
+sum_terms : (m : ℕ) (s : State) → (with_first_sum m s).held.terms ≡ s.held.terms
+sum_terms zero s = refl
+sum_terms (suc m) s = refl
+
+pub start_terms : (p : Problem) (s : State) → IsStart p s → s.held.terms ≡ first_terms p
+start_terms p s st =
+    let s1 : State = with_ground_clauses p.clauses (empty_state p) in
+    let s2 : State = with_elements (range_with_len 0 p.sig.sorts) s1 in
+    ap (λ (u : State). u.held.terms) st.after ∙ (sum_terms p.sig.sorts s2 ∙ (elements_terms (range_with_len 0 p.sig.sorts) s1 ∙ ground_terms p.clauses (empty_state p)))
+
+pub start_free : (p : Problem) (s : State) → IsStart p s → s.free ≡ false
+start_free p s st = ap (λ (x : Rest). x.free) (begun p s st).rest

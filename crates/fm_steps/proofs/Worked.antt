@@ -47,16 +47,16 @@ abbrev pub minus : ℕ → Lit
 minus n = record { atom = record { 0 = n }; positive = false }
 
 -- One sort and three constants of it, each two of which are different.
-abbrev constant : ℕ → Pterm
+abbrev pub constant : ℕ → Pterm
 constant f = Pterm.App (record { 0 = f }) []
 
-abbrev differ : ℕ → ℕ → FirstOrderClause
+abbrev pub differ : ℕ → ℕ → FirstOrderClause
 differ a b = record { vars = []; lits = record { positive = false; atom = Patom.Equal (constant a) (constant b) } ∷ [] }
 
-abbrev rank : Rank
+abbrev pub rank : Rank
 rank = record { args = []; result = Ty.Of (record { 0 = 0 }) }
 
-abbrev three_sig : Sig
+abbrev pub three_sig : Sig
 three_sig = record { sorts = 1; ranks = rank ∷ (rank ∷ (rank ∷ [])) }
 
 abbrev pub three : Problem
@@ -84,7 +84,7 @@ clauses_terms =
     ∙ differ_ground 1 2 three_terms)
 
 -- so no constant is fresh
-not_bare : is_bare three 0 ≡ false
+pub not_bare : is_bare three 0 ≡ false
 not_bare = ap (λ (ts : List Term). not (list_any (is_term_of three_sig 0) ts)) clauses_terms
 
 no_fresh : fresh_symbols three ≡ []

@@ -174,7 +174,7 @@ same_sign true false e = absurd (cc e)
 same_sign false true e = absurd (cc e)
 same_sign false false e = refl
 
-same_literal : (k l : Literal) → is_same_literal k l ≡ true → k ≡ l
+pub same_literal : (k l : Literal) → is_same_literal k l ≡ true → k ≡ l
 same_literal k l e =
     let p = and_parts (beq k.positive l.positive) (is_same_atom k.atom l.atom) e in
     let sign = same_sign k.positive l.positive p.0 in

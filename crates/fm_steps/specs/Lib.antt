@@ -1,6 +1,8 @@
 pub mod Bounds
 pub mod Content
 pub mod Facts
+pub mod Fitting
+pub mod Going
 pub mod Grounded
 pub mod Laws
 pub mod Lines
@@ -13,6 +15,7 @@ pub mod Readers
 pub mod Ready
 pub mod Rows
 pub mod Runs
+pub mod Searchable
 pub mod Sizes
 pub mod Soundness
 pub mod Start

@@ -48,10 +48,18 @@ UnitLemmasAreNew =
     (s : State) (ls : List Literal) (l : Literal) → AtomsAreKnown s → AreClausesDistinct s → HasNoUnit s.clauses s.trail.entries
     → IsUnitLemma s ls l → IsInClauses s ls → ⊥
 
--- In a run a lemma that is offered is due: there is one, and each that is due has known atoms and is false, or unit for Imply.
+-- so it isn't in a run
+abbrev pub UnitLemmasAreNewInRuns : Type 0
+UnitLemmasAreNewInRuns =
+    (p : Problem) (b : Budget) (events : List Event) (s : State) (ls : List Literal) (l : Literal) → IsReached p b events s
+    → HasNoUnit s.clauses s.trail.entries → IsUnitLemma s ls l → IsInClauses s ls → ⊥
+
+-- In a run a lemma that is offered is due: there is one, with each literal once, and each that is due has known atoms and is
+-- false, or unit for Imply.
 pub record IsOfferedLemma (s : State) (k : Known) (r : Reader) (d : Due) (Asks : List Literal → Type 0) : Type 0 where
   pub lits : List Literal
   pub due : IsDue s k r d lits
+  pub distinct : AreDistinct lits
   pub known : (ls : List Literal) → IsDue s k r d ls → are_known s ls ≡ true
   pub asks : (ls : List Literal) → IsDue s k r d ls → Asks ls
 

@@ -3,7 +3,7 @@
 use Rattle.std.specs.Prelude.{◌≡◌, ◌⊎◌, ℕ, ◌+◌, ◌<◌, Bool, true, false, List, [], ◌∷◌, ◌++◌, length, map, slice_get, Some, None}
 use Rattle.std.specs.List.{list_all, list_any}
 use Rattle.fm_base.specs.Models.{IsElements}
-use Rattle.fm_base.specs.Resolution.{Has}
+use Rattle.fm_base.specs.Resolution.{AreDistinct, Has}
 use Rattle.fm_base.specs.declared.ids.Lit.{Lit}
 use Rattle.fm_base.specs.declared.ids.Reader.{Reader}
 use Rattle.fm_bank.specs.declared.atom.Atom.{Atom}
@@ -47,12 +47,13 @@ after_learning n (step ∷ steps) lits l level s = put l (length s.clauses) (wit
 
 -- Learn: the clause is false, with a literal above level 0. While more than one literal of the clause so far has its highest
 -- level, the one whose entry is the latest is resolved with its reason. Then one stands alone at the highest level, and
--- `level` is the highest of the others, or 0.
+-- `level` is the highest of the others, or 0. The literals are free but for their set, and each stands once.
 pub record LearnRow (s : State) (n : ℕ) (t : State) : Type 0 where
   pub conflict : IsConflict s.clauses s.trail.entries n
   pub steps : Steps
   pub lits : Clause
   pub learnt : LearntBy s.clauses s.trail.entries n steps lits
+  pub distinct : AreDistinct lits
   pub lit : Lit
   pub level : ℕ
   pub asserting : IsAsserting s.trail.entries lits lit level
@@ -71,19 +72,21 @@ pub record TakeRow (s : State) (r : Reader) (t : State) : Type 0 where
   pub left : head_of s.trail.heads r < length s.trail.entries
   pub after : t ≡ read_one r s
 
--- Lemma: a lemma that isn't in the list is due and false; it is added
+-- Lemma: a lemma that isn't in the list is due and false, each of its literals once; it is added
 pub record LemmaRow (s : State) (k : Known) (r : Reader) (d : Due) (t : State) : Type 0 where
   pub lits : List Literal
   pub due : IsDue s k r d lits
+  pub distinct : AreDistinct lits
   pub known : are_known s lits ≡ true
   pub new : IsInClauses s lits → ⊥
   pub false_here : is_false_lemma s lits ≡ true
   pub after : t ≡ with_literals lits s
 
--- Imply: a lemma that isn't in the list is due and unit; it is added and its literal is put on
+-- Imply: a lemma that isn't in the list is due and unit, each of its literals once; it is added and its literal is put on
 pub record ImplyRow (s : State) (k : Known) (r : Reader) (d : Due) (t : State) : Type 0 where
   pub lits : List Literal
   pub due : IsDue s k r d lits
+  pub distinct : AreDistinct lits
   pub known : are_known s lits ≡ true
   pub new : IsInClauses s lits → ⊥
   pub lit : Literal

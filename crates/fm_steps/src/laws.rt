@@ -1,11 +1,14 @@
 ghost use Rattle.fm_steps.specs.Bounds.{BoundIsFirst, BoundIsOpen, DecisionsAreLarge, InstancesStand, SizesAreInRow, StartStays, ZeroIsImplied};
 ghost use Rattle.fm_steps.specs.Facts.{AtomsAreKnown, ClausesAreGuarded, HeadsAreWithin, InstancesAreCounted, IsLawful, PicksAreKnown, SizesAreAssumed, SmallerAreRefuted, TrailIsExplained};
+ghost use Rattle.fm_steps.specs.Fitting.{DecisionsAreAtoms, InstancesAreTyped, SplitsAreAtoms};
+ghost use Rattle.fm_steps.specs.Going.{BoundsAreCounted, MenusAreNotEmpty, RunsAreWithinBudget, RunsBegin, StatesSettle, StepsExist, StepsGoOn};
 ghost use Rattle.fm_steps.specs.Grounded.{TestsAreTyped};
 ghost use Rattle.fm_steps.specs.Lines.{BoundsAreWritten, LemmasAreLines, RowsAreWritten, RunsFollow, RunsHaveLines, RunsStayHeld, SettlingWritesNothing, StartIsWritten, StartsHeld, StepsStayHeld};
-ghost use Rattle.fm_steps.specs.Offered.{FalseLemmasAreNew, ImplyIsDue, InstanceFails, LemmaIsDue, PicksHold, RaiseIsMet, SatIsMet, UnitLemmasAreNew};
+ghost use Rattle.fm_steps.specs.Offered.{AreClausesDistinct, FalseLemmasAreNew, ImplyIsDue, InstanceFails, LemmaIsDue, PicksHold, RaiseIsMet, SatIsMet, UnitLemmasAreNew, UnitLemmasAreNewInRuns};
 ghost use Rattle.fm_steps.specs.Progress.{RunsSpend, StepsLeaveLess, StretchesEnd, TurnsAreFew};
 ghost use Rattle.fm_steps.specs.Readers.{ReadersCloseLevels, ReadersGoBack, ReadersStay};
 ghost use Rattle.fm_steps.specs.Ready.{DecideIsReady, InstanceIsReady, LearnIsReady, RaiseIsReady, SatIsReady, SplitIsReady, TakeIsReady, TurnIsReady, UnitIsReady, UnsatIsReady};
+ghost use Rattle.fm_steps.specs.Searchable.{AddedAreTerms, ContentsAreGrounded, InstanceIsMet, InstancesHold, LastStandsAlone, RunsHaveStartTerms, SatIsExact, SearchableAreSorted, SumIsWithin};
 ghost use Rattle.fm_steps.specs.Soundness.{HoldsInModels, NoneIsRefuted, SumIsReached, ZeroIsTrue};
 ghost use Rattle.fm_steps.specs.Laws.{AnswersEndRuns, EachIsKnown, HasAtStart, HoldsInRuns, IsKeptByMoves, IsKeptBySteps, IsLeftByMoves, RunsAreCounted, WrongEventsEndNoRun};
 
@@ -185,4 +188,60 @@ pub fn steps_leave_less()
     ensures stretches { StretchesEnd }
     ensures turns { TurnsAreFew }
     ensures budgets { RunsSpend }
+{}
+
+/// No clause of a state of a run has a literal twice; so a lemma that is unit isn't in the list, where no clause is unit. It
+/// is a law of the definitions and does nothing.
+pub fn clauses_stay_distinct()
+    ensures start { HasAtStart (λ p s. AreClausesDistinct s) }
+    ensures moves { IsKeptByMoves (λ p s. AreClausesDistinct s) }
+    ensures runs { HoldsInRuns (λ p s. AreClausesDistinct s) }
+    ensures unit_lemma { UnitLemmasAreNewInRuns }
+{}
+
+/// What a run knows of the candidate, where the clauses are as a search asks for: the terms at the start are registered, what
+/// was added is over terms, and what the candidate is made of fits together. It is a law of the definitions and does nothing.
+pub fn contents_are_grounded()
+    ensures sorted { SearchableAreSorted }
+    ensures start { RunsHaveStartTerms }
+    ensures added { AddedAreTerms }
+    ensures grounded { ContentsAreGrounded }
+{}
+
+/// Where groups 1 to 6 of the menu are empty in the bounded phase of a run, the added instances over representatives are true
+/// in the candidate; so an instance that is offered is new, and its row is met where the budget isn't spent. It is a law of the
+/// definitions and does nothing.
+pub fn offered_instances_are_met()
+    ensures alone { LastStandsAlone }
+    ensures added { InstancesHold }
+    ensures instance { InstanceIsMet }
+{}
+
+/// Where groups 1 to 6 of the menu are empty in the bounded phase of a run, the candidate's sizes don't add up to more than the
+/// bound; and where Answer Sat is offered they add up to it, and the bound below is false at level 0. It is a law of the
+/// definitions and does nothing.
+pub fn sat_is_exact()
+    ensures within { SumIsWithin }
+    ensures exact { SatIsExact }
+{}
+
+/// In every state of a run the menu has an offer, and the row of what is carried out for an offer is met; no count passes its
+/// budget, and the bound no more than the number of sorts and the decisions together. The tests can be chosen in each state, so
+/// a run can begin, and each offer is a step. It is a law of the definitions and does nothing.
+pub fn steps_go_on()
+    ensures menu { MenusAreNotEmpty }
+    ensures budget { RunsAreWithinBudget }
+    ensures bounds { BoundsAreCounted }
+    ensures rows { StepsGoOn }
+    ensures settled { StatesSettle }
+    ensures start { RunsBegin }
+    ensures steps { StepsExist }
+{}
+
+/// What is carried out is over the registered terms: what stands for the variables of an instance has their sorts, and what is
+/// decided or split is an atom over the terms. It is a law of the definitions and does nothing.
+pub fn events_fit()
+    ensures instances { InstancesAreTyped }
+    ensures splits { SplitsAreAtoms }
+    ensures decisions { DecisionsAreAtoms }
 {}
