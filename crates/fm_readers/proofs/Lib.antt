@@ -1,0 +1,10 @@
+pub mod Agreeing
+pub mod Classing
+pub mod Clashing
+pub mod Graphs
+pub mod Knowing
+pub mod Reading
+pub mod Reasons
+pub mod Sets
+pub mod Shows
+pub mod Values

@@ -1,0 +1,5 @@
+pub mod Agreeing
+pub mod Graphs
+pub mod Shown
+pub mod Values
+pub mod Tested
