@@ -1,6 +1,6 @@
 use crate::graphs::{bank, follow, follow_strong, graph, read};
 use crate::plain::{MOST, PAIRS, Plain};
-use crate::{Regions, Strong, Weak};
+use crate::{Pick, Regions, Strong, Weak, pick_of};
 use fm_bank::Bank;
 use fm_base::{Memory, SortId, Undo};
 use fm_cong::Egraph;
@@ -350,6 +350,57 @@ fn agree_for_all(
 fn agrees_with_the_rule(rt: HostRuntime) -> Result<(), Fail> {
     for size in [(0, 1), (1, 1), (2, 2), (3, 8), (4, 64)].iter() {
         assert!(rt; agree_for_all(&rt, rt.alloc(), size.0, size.1)?);
+    }
+    Ok(())
+}
+
+// Some constants, the pairs of them that are unequal, a number, and the test at it: its terms, a point, and its pair.
+const PICKS: [(usize, &[u8], u64, &[u8]); 5] = [
+    (3, b"010212", 2, b"012."),
+    (4, b"010212", 2, b"012."),
+    (4, b"0102", 2, b"012.12"),
+    (3, b"01", 1, b"01."),
+    (3, b"01", 3, b""),
+];
+
+fn is_pick(pick: &Pick, wanted: &[u8]) -> bool {
+    for (place, byte) in wanted.iter().enumerate() {
+        match pick.terms.get(place) {
+            Some(term) if term.0 == digit(*byte) => {}
+            None if *byte == b'.' => {
+                return match pick.pair {
+                    None => wanted.len() == place + 1,
+                    Some((c, d)) => {
+                        wanted.get(place + 1).copied().map(digit) == Some(c.0)
+                            && wanted.get(place + 2).copied().map(digit) == Some(d.0)
+                    }
+                };
+            }
+            _ => return false,
+        }
+    }
+    false
+}
+
+fn picks(
+    rt: &impl Abort,
+    alloc: Global,
+    (constants, pairs, k, wanted): (usize, &[u8], u64, &[u8]),
+) -> Result<bool, Memory> {
+    let mut bank = bank(rt, alloc, constants)?;
+    let mut graph = graph(rt, alloc, &bank)?;
+    read_pairs(rt, &mut graph, &mut bank, pairs)?;
+    assert!(rt; graph.is_settled());
+    Ok(match pick_of(alloc, &graph, SortId(0), k)? {
+        Some(pick) => is_pick(&pick, wanted),
+        None => wanted.is_empty(),
+    })
+}
+
+#[test]
+fn picks_the_test_of_a_sort(rt: HostRuntime) -> Result<(), Fail> {
+    for row in 0..PICKS.len() {
+        assert!(rt; picks(&rt, rt.alloc(), PICKS[row])?, "row {row}");
     }
     Ok(())
 }
