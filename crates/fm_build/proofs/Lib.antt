@@ -9,6 +9,7 @@ pub mod Marking
 pub mod Naming
 pub mod Placing
 pub mod Positions
+pub mod Slotting
 pub mod Starting
 pub mod Stopping
 pub mod Tabulating

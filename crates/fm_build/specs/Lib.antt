@@ -8,4 +8,5 @@ pub mod Marks
 pub mod Named
 pub mod Parts
 pub mod Reached
+pub mod Slots
 pub mod Written

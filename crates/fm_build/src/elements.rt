@@ -1,11 +1,13 @@
-ghost use Rattle.std.specs.Prelude.{◌≡◌, ◌==◌, Some, IfOk};
+ghost use Rattle.std.specs.Prelude.{◌≡◌, ◌<◌, ◌==◌, Some, length, slice_get, IfOk};
 ghost use Rattle.std.specs.List.{position};
 ghost use Rattle.fm_base.specs.declared.ids.TermId.{TermId};
 ghost use Rattle.fm_bank.specs.Terms.{numbers};
 ghost use Rattle.fm_rounds.specs.Failing.{numbered_reps};
 ghost use Rattle.fm_build.specs.Elements.{all_reps_by, element_by, elements_by, is_of_sort as is_of, place_in, reps_by};
-ghost use Rattle.fm_build.specs.Marks.{class_at};
+ghost use Rattle.fm_build.specs.Marks.{AreBelow, class_at};
+ghost use Rattle.fm_build.specs.Slots.{AreSlots, IsPlacedBy};
 
+use crate::slots::{Slot, slot, slots_of};
 use fm_base::{Memory, SortId, TermId, Ty};
 use sqlite_items::Items;
 use std::alloc::Global;
@@ -54,7 +56,7 @@ pub(crate) fn reps_by_sort(
     Ok(all)
 }
 
-fn class_of(class: &[usize], term: usize) -> usize
+pub(crate) fn class_of(class: &[usize], term: usize) -> usize
     ensures { result ≡ class_at class.now term }
 {
     class.get(term).copied().unwrap_or(0)
@@ -76,13 +78,53 @@ fn place(class: &[usize], reps: &[TermId], term: usize) -> usize
     }
 }
 
+// The same by the slot of the class. A class whose slot is of another sort, which no graph has, is looked for.
+fn place_by(class: &[usize], slot: Slot, sort: SortId, reps: &[TermId], term: usize) -> usize
+    requires { IsPlacedBy class.now term slot sort.0 reps.now }
+    ensures { result ≡ place_in class.now term (Some reps.now) }
+{
+    match slot {
+        None => reps.len(),
+        Some((other, at)) => {
+            if other == sort.0 {
+                at
+            } else {
+                place(class, reps, term)
+            }
+        }
+    }
+}
+
+fn place_at(
+    class: &[usize],
+    reps: &[Items<TermId>],
+    slots: &[Slot],
+    sort: SortId,
+    term: usize,
+) -> usize
+    requires term { term < length class.now }
+    requires slots { AreSlots class.now reps.now slots.now }
+    ensures { result ≡ place_in class.now term (slice_get reps.now sort.0) }
+{
+    match reps.get(sort.0) {
+        None => 0,
+        Some(reps) => {
+            let own = slot(slots, class_of(class, term));
+            place_by(class, own, sort, reps.as_slice(), term)
+        }
+    }
+}
+
 fn element(
     class: &[usize],
     types: &[Ty],
     holds: &[bool],
     reps: &[Items<TermId>],
+    slots: &[Slot],
     term: usize,
 ) -> u64
+    requires term { term < length class.now }
+    requires slots { AreSlots class.now reps.now slots.now }
     ensures { result ≡ element_by class.now types.now holds.now reps.now term }
 {
     match types.get(term) {
@@ -94,10 +136,7 @@ fn element(
                 0
             }
         }
-        Some(Ty::Of(sort)) => match reps.get(sort.0) {
-            None => 0,
-            Some(reps) => place(class, reps.as_slice(), term) as u64,
-        },
+        Some(Ty::Of(sort)) => place_at(class, reps, slots, *sort, term) as u64,
     }
 }
 
@@ -109,11 +148,13 @@ pub(crate) fn all_elements(
     holds: &[bool],
     reps: &[Items<TermId>],
 ) -> Result<Vec<u64>, Memory>
+    requires { AreBelow class.now (length class.now) }
     ensures { IfOk result (λ v. v.items ≡ elements_by class.now types.now holds.now reps.now) }
 {
+    let slots = slots_of(alloc, class, reps)?;
     let mut elements = Vec::new(alloc);
     for term in 0..class.len() {
-        let element = element(class, types, holds, reps, term);
+        let element = element(class, types, holds, reps, slots.as_slice(), term);
         elements.push(element)?;
     }
     Ok(elements)

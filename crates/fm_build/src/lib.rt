@@ -11,6 +11,7 @@ mod instances;
 mod laws;
 mod marks;
 mod rounds;
+mod slots;
 mod start;
 mod suggest;
 mod tables;

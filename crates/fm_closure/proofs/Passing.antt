@@ -3,7 +3,7 @@ use Rattle.std.proofs.Common.{◌≡◌, ℕ, zero, suc, ◌+◌, ◌<◌, ◌�
 use Rattle.std.specs.Prelude.{◌==◌, IfSome, slice_get}
 use Rattle.std.specs.List.{All, Contains}
 use Rattle.std.proofs.lemmas.Bool.{and_from, and_parts, cases_Bool, eq-eqb, eqb-true, false≢true}
-use Rattle.std.proofs.lemmas.List.{append-nil, length-map, take_more}
+use Rattle.std.proofs.lemmas.List.{append-nil, take_more}
 use Rattle.std.proofs.lemmas.List.Elements.{All-contains, All-contains_itself, All-get_or, All-head, All-map, All-push, All-tail, All-weaker}
 use Rattle.std.proofs.lemmas.Option.{slice_get-get_or}
 use Rattle.fm_base.specs.declared.ids.SymId.{SymId}
@@ -11,12 +11,14 @@ use Rattle.fm_base.specs.declared.ids.TermId.{TermId}
 use Rattle.fm_bank.specs.Closure.{IsClosed, are_related, object, shapes_of}
 use Rattle.fm_bank.specs.Terms.{AreTerms, Term, application, is_same, numbers}
 use Rattle.fm_bank.proofs.Keys.{is_same-refl, same_term}
-use Rattle.fm_closure.specs.Classes.{AllAreClosed, AreAllThere, AreClosed, AreJoined, AreSoundOver, IsUnjoined, KeepsObjects, are_alike, are_alike_in, by_class, class_at, is_one_class, is_there, joined, numbers_of, total}
+use Rattle.fm_closure.specs.Classes.{AllAreClosed, AreAllThere, AreClosed, AreJoined, IsUnjoined, KeepsObjects, are_alike, are_alike_in, by_class, class_at, is_one_class, is_there, numbers_of}
+use Rattle.fm_closure.specs.Members.{AreUnited, kinds}
 use Rattle.fm_closure.specs.Signatures.{AllHaveArguments, FactsAreDone, HasArguments, HasJoined, HasJoinedFact, IsEntered, IsLookedUp, IsPass, IsSignature, IsTabled, TermsAreDone, class_of_term, class_or, find_in, new_entry, signature}
 use Rattle.fm_closure.specs.declared.object.Object.{Object}
 use Rattle.fm_closure.proofs.Lookup.{class_there}
 use Rattle.fm_closure.proofs.Partition.{class_refl, class_same, class_sym, class_trans}
-use Rattle.fm_closure.proofs.Soundness.{All-whole, closed_end, less_step, sound_step}
+use Rattle.fm_closure.proofs.Soundness.{All-whole, closed_end, fewer_step, united_step}
+use Rattle.fm_closure.proofs.Uniting.{united_length}
 
 one_number : (x y : ℕ) (o p : Option ℕ) → is_one_class x y o p ≡ true → class_or o ≡ class_or p
 one_number x y None None e = refl
@@ -156,16 +158,15 @@ module _ (terms : List Term) (over : List TermId) (os : List Object) (facts : Li
   pass_same : (cs new : List ℕ) (changed : Bool) → new ≡ cs → IsPass os terms over facts start cs changed → IsPass os terms over facts start new changed
   pass_same cs new changed is h = subst (λ (ds : List ℕ). IsPass os terms over facts start ds changed) (sym is) h
 
-  pass_more : (cs new : List ℕ) (changed : Bool) (p : ℕ × ℕ) → IsUnjoined os cs terms over facts p → new ≡ map (joined p.0 p.1) cs → IsPass os terms over facts start cs changed → IsPass os terms over facts start new true
+  pass_more : (cs new : List ℕ) (changed : Bool) (p : ℕ × ℕ) → IsUnjoined os cs terms over facts p → AreUnited p.0 p.1 cs new → IsPass os terms over facts start cs changed → IsPass os terms over facts start new true
   pass_more cs new changed p gap is h =
-      let less : total (map (joined p.0 p.1) cs) < total cs = less_step terms over facts os cs p gap in
-      let same : total new ≡ total (map (joined p.0 p.1) cs) = ap total is in
+      let less : kinds new < kinds cs = fewer_step terms over facts os cs new p gap is in
       let falls = h.falls in
       record {
-        whole = ap (λ (l : List ℕ). length l) is ∙ length-map cs (joined p.0 p.1) ∙ h.whole;
-        sound = subst (AreSoundOver terms over facts os) (sym is) (sound_step terms over facts os cs p h.sound gap);
-        falls = omega (arith, less, same, falls);
-        less = λ e. omega (arith, less, same, falls);
+        whole = united_length p.0 p.1 cs new is ∙ h.whole;
+        sound = united_step terms over facts os cs new p h.sound gap is;
+        falls = omega (arith, less, falls);
+        less = λ e. omega (arith, less, falls);
         same = λ e. false_true e;
       }
 
@@ -173,7 +174,7 @@ module _ (terms : List Term) (over : List TermId) (os : List Object) (facts : Li
   pass_changed cs new true b h e is = pass_same cs new true is h
   pass_changed cs new false b h e is = subst (IsPass os terms over facts start new) (sym e) (pass_same cs new false is h)
 
-  pass_joined : (cs new : List ℕ) (changed b : Bool) (p : ℕ × ℕ) → IsPass os terms over facts start cs changed → b ≡ true → IsUnjoined os cs terms over facts p → new ≡ map (joined p.0 p.1) cs → IsPass os terms over facts start new (changed || b)
+  pass_joined : (cs new : List ℕ) (changed b : Bool) (p : ℕ × ℕ) → IsPass os terms over facts start cs changed → b ≡ true → IsUnjoined os cs terms over facts p → AreUnited p.0 p.1 cs new → IsPass os terms over facts start new (changed || b)
   pass_joined cs new true b p h e gap is = pass_more cs new true p gap is h
   pass_joined cs new false b p h e gap is = subst (IsPass os terms over facts start new) (sym e) (pass_more cs new false p gap is h)
 

@@ -4,4 +4,4 @@ use Rattle.fm_closure.specs.Classes.{by_class}
 use Rattle.fm_closure.specs.declared.closed.Closed.{Closed}
 
 abbrev pub test_of : Closed → ℕ → ℕ → Bool
-test_of made = by_class made.objects.keys made.classes.items
+test_of made = by_class made.objects.keys made.classes

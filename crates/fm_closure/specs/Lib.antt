@@ -1,4 +1,5 @@
 pub mod Asked
 pub mod Classes
 pub mod Facts
+pub mod Members
 pub mod Signatures

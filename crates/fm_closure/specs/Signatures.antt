@@ -6,7 +6,8 @@ use Rattle.std.specs.Map.{lookup}
 use Rattle.fm_base.specs.declared.ids.TermId.{TermId}
 use Rattle.fm_bank.specs.Closure.{object}
 use Rattle.fm_bank.specs.Terms.{Term, is_same}
-use Rattle.fm_closure.specs.Classes.{AllAreClosed, AreClosed, AreJoined, AreOfClasses, AreSoundOver, AreUnjoined, by_class, class_at, is_there, joined, number_of, total}
+use Rattle.fm_closure.specs.Classes.{AllAreClosed, AreClosed, AreJoined, AreOfClasses, AreSoundOver, AreUnjoined, by_class, class_at, is_there, number_of}
+use Rattle.fm_closure.specs.Members.{AreUnited, kinds}
 use Rattle.fm_closure.specs.declared.object.Object.{Object}
 
 abbrev pub class_or : Option ℕ → ℕ
@@ -47,12 +48,12 @@ AllHaveArguments objects terms over = All (HasArguments objects terms) over
 
 -- two classes have been joined, where congruent terms were of two, else nothing has changed
 abbrev pub HasJoined : List Object → List Term → TermId → Option TermId → List ℕ → List ℕ → Bool → Type 0
-HasJoined objects terms a found old new true = (b : TermId) × (p : ℕ × ℕ) × (found ≡ Some b) × AreUnjoined objects old terms a b p × (new ≡ map (joined p.0 p.1) old)
+HasJoined objects terms a found old new true = (b : TermId) × (p : ℕ × ℕ) × (found ≡ Some b) × AreUnjoined objects old terms a b p × AreUnited p.0 p.1 old new
 HasJoined objects terms a found old new false = (new ≡ old) × ((b : TermId) → found ≡ Some b → AreClosed objects old terms a b)
 
 -- the same for the sides of a fact
 abbrev pub HasJoinedFact : List Object → Object × Object → List ℕ → List ℕ → Bool → Type 0
-HasJoinedFact objects f old new true = (p : ℕ × ℕ) × AreOfClasses objects old (number_of f.0) (number_of f.1) p × (new ≡ map (joined p.0 p.1) old)
+HasJoinedFact objects f old new true = (p : ℕ × ℕ) × AreOfClasses objects old (number_of f.0) (number_of f.1) p × AreUnited p.0 p.1 old new
 HasJoinedFact objects f old new false = (new ≡ old) × AreJoined objects old f
 
 -- the term that is found by a term's signature is of its class
@@ -67,8 +68,8 @@ pub record IsEntered (objects : List Object) (classes : List ℕ) (terms : List 
 pub record IsPass (objects : List Object) (terms : List Term) (over : List TermId) (facts : List (Object × Object)) (start classes : List ℕ) (changed : Bool) : Type 0 where
   pub whole : length classes ≡ length objects
   pub sound : AreSoundOver terms over facts objects classes
-  pub falls : total classes ≤ total start
-  pub less : changed ≡ true → total classes < total start
+  pub falls : kinds classes ≤ kinds start
+  pub less : changed ≡ true → kinds classes < kinds start
   pub same : changed ≡ false → classes ≡ start
 
 -- the table in the midst of a pass, behind the first terms

@@ -7,6 +7,7 @@ ghost use Rattle.fm_closure.specs.Facts.{IsClosureOver};
 use crate::classes::same_class;
 use crate::equations::Equations;
 use crate::facts::facts_of;
+use crate::members::Classes;
 use crate::object::Object;
 use crate::objects::objects_with_arguments;
 use crate::passes::passed_classes;
@@ -19,15 +20,16 @@ use std::alloc::Global;
 #[derive(Drop)]
 pub struct Closed {
     objects: IndexSet<Object>,
-    classes: Vec<usize>,
+    classes: Classes,
 }
 
 impl Closed {
     /// The closure of the equations, by congruence over the terms of the list alone. The equations and the questions may
     /// name terms that the list lacks: those are joined by facts, and by no congruence. It is the closure of `equal_in` and
     /// `clash_in`, made once for all questions, and made faster: it passes over facts and terms by turns, and finds the
-    /// congruent terms of a pass by a table of their symbols with the classes of their arguments. A list in ascending order
-    /// needs the fewest passes.
+    /// congruent terms of a pass by a table of their symbols with the classes of their arguments. A join goes over the
+    /// smaller of the two classes alone, so a pass costs the list, and all joins together n log n moves. A list in ascending
+    /// order needs the fewest passes.
     pub fn new(
         alloc: Global,
         bank: &Bank,

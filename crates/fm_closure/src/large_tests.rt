@@ -1,9 +1,10 @@
 // Two chains of three hundred terms, f(f(..f(a))) and f(f(..f(b))), with a = b: each link follows from the one before it.
-// A benchmark too: `./bench closure` at the top.
+// And a chain of eighty thousand terms with f(a) = a, so that all of them are of one class, in a closure that is made for
+// many questions. A benchmark too: `./bench closure` at the top.
 ghost use Rattle.std.specs.Prelude.{IfOk};
 ghost use Rattle.fm_bank.specs.Terms.{AreTerms};
 
-use crate::{Equations, equal_in};
+use crate::{Closed, Equations, equal_in};
 use fm_bank::Bank;
 use fm_base::{Memory, Rank, Sig, SortId, SymId, TermId, Ty};
 use sqlite_items::Items;
@@ -17,6 +18,8 @@ const U: Ty = Ty::Of(SortId(0));
 const F: SymId = SymId(2);
 
 const TERMS: usize = 600;
+
+const LONG: usize = 80_000;
 
 fn rank(alloc: Global, arity: usize) -> Result<Rank, Memory> {
     let mut args = Vec::new(alloc);
@@ -89,5 +92,35 @@ fn joins_long_chains(rt: HostRuntime) -> Result<(), Fail> {
     let start = [(TermId(0), TermId(1))];
     assert!(rt; joins(rt.alloc(), &bank, &start)?);
     assert!(rt; !joins(rt.alloc(), &bank, &[])?);
+    Ok(())
+}
+
+// A chain of so many terms, each f of the term before it.
+fn chain(rt: &impl Abort, alloc: Global, count: usize) -> Result<Bank, Memory> {
+    let sig = signature(alloc)?;
+    let mut bank = Bank::new(alloc, &sig)?;
+    put(rt, &mut bank, SymId(0), &[])?;
+    for term in 1..count {
+        put(rt, &mut bank, F, &[TermId(term - 1)])?;
+    }
+    Ok(bank)
+}
+
+// Whether the ends of the chain are equal where its first two terms are.
+fn closes(alloc: Global, bank: &Bank, last: TermId) -> Result<bool, Memory> {
+    let over = all(alloc, bank)?;
+    let eqs = Equations {
+        pairs: Items::from_slice(alloc, &[(TermId(0), TermId(1))])?,
+        yes: Items::new(alloc),
+        no: Items::new(alloc),
+    };
+    let closed = Closed::new(alloc, bank, &eqs, &over)?;
+    Ok(closed.joins(TermId(0), last))
+}
+
+#[test]
+fn closes_a_long_chain(rt: HostRuntime) -> Result<(), Fail> {
+    let bank = chain(&rt, rt.alloc(), LONG)?;
+    assert!(rt; closes(rt.alloc(), &bank, TermId(LONG - 1))?);
     Ok(())
 }

@@ -9,6 +9,7 @@ mod facts;
 mod key;
 #[cfg(test)]
 mod large_tests;
+mod members;
 mod object;
 mod objects;
 mod passes;

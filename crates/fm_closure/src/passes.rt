@@ -7,8 +7,9 @@ ghost use Rattle.fm_closure.specs.Signatures.{AllHaveArguments, FactsAreDone, Ha
 ghost use Rattle.fm_closure.specs.Signatures.{IsLookedUp, IsPass, IsSignature, TermsAreDone};
 ghost use Rattle.fm_closure.specs.Signatures.{class_of_term, find_in, new_entry};
 
-use crate::classes::{class_in, differing, join, singletons};
+use crate::classes::{class_in, differing};
 use crate::key::{Args, Key};
+use crate::members::Classes;
 use crate::object::Object;
 use crate::scan::unjoined_terms;
 use fm_bank::Bank;
@@ -86,24 +87,24 @@ fn look_up(
 fn join_with(
     bank: &Bank,
     objects: &IndexSet<Object>,
-    classes: &mut [usize],
+    classes: &mut Classes,
     a: TermId,
     found: Option<TermId>,
-) -> bool
+) -> Result<bool, Memory>
     requires whole { length classes.old ≡ length objects.now.keys }
     requires term { a.0 < length bank.now.terms }
     requires there { is_there objects.now.keys (object a.0) ≡ true }
     requires other { IfSome found (λ b. b.0 < length bank.now.terms) }
     requires other_there { IfSome found (λ b. is_there objects.now.keys (object b.0) ≡ true) }
-    ensures { HasJoined objects.now.keys bank.now.terms a found classes.old classes.new result }
+    ensures { IfOk result (HasJoined objects.now.keys bank.now.terms a found classes.old classes.new) }
 {
     match found {
-        None => false,
-        Some(b) => match unjoined_terms(bank, objects, classes, a, b) {
-            None => false,
+        None => Ok(false),
+        Some(b) => match unjoined_terms(bank, objects, classes.as_slice(), a, b) {
+            None => Ok(false),
             Some((c, d)) => {
-                join(classes, c, d);
-                true
+                classes.join(c, d)?;
+                Ok(true)
             }
         },
     }
@@ -126,7 +127,7 @@ fn walk(
     alloc: Global,
     bank: &Bank,
     objects: &IndexSet<Object>,
-    classes: &mut [usize],
+    classes: &mut Classes,
     over: &[TermId],
     _facts: &[(Object, Object)],
     table: &mut IndexMap<Key, TermId>,
@@ -142,8 +143,8 @@ fn walk(
 {
     let mut changed = false;
     for a in over {
-        let found = look_up(alloc, bank, objects, classes, table, *a)?;
-        let joined = join_with(bank, objects, classes, *a, found);
+        let found = look_up(alloc, bank, objects, classes.as_slice(), table, *a)?;
+        let joined = join_with(bank, objects, classes, *a, found)?;
         changed = either(changed, joined);
     }
     Ok(changed)
@@ -153,7 +154,7 @@ fn join_terms(
     alloc: Global,
     bank: &Bank,
     objects: &IndexSet<Object>,
-    classes: &mut [usize],
+    classes: &mut Classes,
     over: &[TermId],
     facts: &[(Object, Object)],
 ) -> Result<bool, Memory>
@@ -170,16 +171,20 @@ fn join_terms(
 }
 
 // Joins the sides of a fact, where they are of two classes.
-fn join_fact(objects: &IndexSet<Object>, classes: &mut [usize], fact: (Object, Object)) -> bool
+fn join_fact(
+    objects: &IndexSet<Object>,
+    classes: &mut Classes,
+    fact: (Object, Object),
+) -> Result<bool, Memory>
     requires whole { length classes.old ≡ length objects.now.keys }
     requires there { AreThere objects.now.keys fact }
-    ensures { HasJoinedFact objects.now.keys fact classes.old classes.new result }
+    ensures { IfOk result (HasJoinedFact objects.now.keys fact classes.old classes.new) }
 {
-    match differing(objects, classes, fact.0, fact.1) {
-        None => false,
+    match differing(objects, classes.as_slice(), fact.0, fact.1) {
+        None => Ok(false),
         Some((c, d)) => {
-            join(classes, c, d);
-            true
+            classes.join(c, d)?;
+            Ok(true)
         }
     }
 }
@@ -187,23 +192,23 @@ fn join_fact(objects: &IndexSet<Object>, classes: &mut [usize], fact: (Object, O
 // Goes once over the facts, and joins the sides of each; whether any were joined.
 fn join_facts(
     objects: &IndexSet<Object>,
-    classes: &mut [usize],
+    classes: &mut Classes,
     _bank: &Bank,
     _over: &[TermId],
     facts: &[(Object, Object)],
-) -> bool
+) -> Result<bool, Memory>
     requires whole { length classes.old ≡ length objects.now.keys }
     requires sides { All (AreThere objects.now.keys) facts.now }
     requires sound { AreSoundOver _bank.now.terms _over.now facts.now objects.now.keys classes.old }
-    ensures pass { IsPass objects.now.keys _bank.now.terms _over.now facts.now classes.old classes.new result }
-    ensures done { FactsAreDone objects.now.keys facts.now classes.new result }
+    ensures pass { IfOk result (IsPass objects.now.keys _bank.now.terms _over.now facts.now classes.old classes.new) }
+    ensures done { IfOk result (FactsAreDone objects.now.keys facts.now classes.new) }
 {
     let mut changed = false;
     for fact in facts {
-        let joined = join_fact(objects, classes, *fact);
+        let joined = join_fact(objects, classes, *fact)?;
         changed = either(changed, joined);
     }
-    changed
+    Ok(changed)
 }
 
 // Goes over facts and terms by turns, until a pass joins nothing.
@@ -211,7 +216,7 @@ fn pass_until_done(
     alloc: Global,
     bank: &Bank,
     objects: &IndexSet<Object>,
-    classes: &mut [usize],
+    classes: &mut Classes,
     over: &[TermId],
     facts: &[(Object, Object)],
 ) -> Result<(), Memory>
@@ -225,7 +230,7 @@ fn pass_until_done(
     ensures closed { OnOk result (AreClosedOver bank.now.terms over.now facts.now objects.now.keys classes.new) }
 {
     loop {
-        let some = join_facts(objects, classes, bank, over, facts);
+        let some = join_facts(objects, classes, bank, over, facts)?;
         let more = join_terms(alloc, bank, objects, classes, over, facts)?;
         if neither(some, more) {
             return Ok(());
@@ -240,15 +245,15 @@ pub(crate) fn passed_classes(
     objects: &IndexSet<Object>,
     over: &[TermId],
     facts: &[(Object, Object)],
-) -> Result<Vec<usize>, Memory>
+) -> Result<Classes, Memory>
     requires over { AreTerms bank.now.terms over.now }
     requires terms { AreAllThere objects.now.keys over.now }
     requires args { AllHaveArguments objects.now.keys bank.now.terms over.now }
     requires sides { All (AreThere objects.now.keys) facts.now }
-    ensures sound { IfOk result (λ classes. AreSoundOver bank.now.terms over.now facts.now objects.now.keys classes.items) }
-    ensures closed { IfOk result (λ classes. AreClosedOver bank.now.terms over.now facts.now objects.now.keys classes.items) }
+    ensures sound { IfOk result (λ classes. AreSoundOver bank.now.terms over.now facts.now objects.now.keys classes) }
+    ensures closed { IfOk result (λ classes. AreClosedOver bank.now.terms over.now facts.now objects.now.keys classes) }
 {
-    let mut classes = singletons(alloc, objects.len())?;
-    pass_until_done(alloc, bank, objects, classes.as_mut_slice(), over, facts)?;
+    let mut classes = Classes::singletons(alloc, objects.len())?;
+    pass_until_done(alloc, bank, objects, &mut classes, over, facts)?;
     Ok(classes)
 }

@@ -21,9 +21,9 @@ loop-fact-preserved c =
     let lt = c.loop-fact-test.true in
     let inv = c.loop-fact.invariant in
     let here = All-get_or (Contains facts) facts i d lt (All-contains_itself facts) in
-    let after = c.join_fact-joined.new.classes in
-    let b = c.join_fact-joined.result in
-    let j = c.join_fact-joined.ensures in
+    let after = c.join_fact.new.classes in
+    let b = c.in_ok-joined.joined in
+    let j = c.in_ok-joined.ensures in
     record {
       pass = subst (IsPass os terms over facts start after) (sym c.either-changed.ensures) (pass_fact terms over os facts start cs after c.loop-fact.changed b (get_or facts i d) inv.pass here j);
       done = subst (λ (x : Bool). FactsAreDone os (take (i + 1) facts) after x) (sym c.either-changed.ensures) (facts_next terms over os facts start cs after c.loop-fact.changed b i d lt inv.pass j inv.done);
