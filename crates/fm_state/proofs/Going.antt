@@ -1,10 +1,9 @@
 -- The trail goes back to a level that isn't below the present one.
-use Rattle.std.proofs.Common.{◌≡◌, ℕ, ◌≤◌, min, length, refl, sym, ap, subst, ◌∙◌, arith}
+use Rattle.std.proofs.Common.{◌≡◌, ℕ, ◌≤◌, min, length, sym, ap, ◌∙◌, arith}
 use Rattle.fm_base.specs.declared.ids.Reader.{Reader}
 use Rattle.fm_steps.specs.Facts.{HeadsAreWithin}
 use Rattle.fm_steps.specs.State.{State, back_to}
 use Rattle.fm_trail.specs.Trail.{AreLevelled, AreWithin, heads_back, level_of, up_to}
-use Rattle.fm_trail.specs.Trail.{Held as Trail}
 use Rattle.fm_trail.specs.declared.heads.Heads.{Heads}
 use Rattle.fm_trail.proofs.Going.{up_to_all}
 

@@ -2,6 +2,7 @@
 #![tactic(auto)]
 
 mod changes;
+mod learnt;
 mod numbering;
 mod offer;
 mod standing;

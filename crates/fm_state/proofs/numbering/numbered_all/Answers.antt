@@ -1,4 +1,4 @@
-use Rattle.std.proofs.Common.{◌+◌, ◌<◌, length, false, true, ap, ◌∙◌, arith}
+use Rattle.std.proofs.Common.{◌<◌, length, false, ap, ◌∙◌, arith}
 use Rattle.fm_bank.specs.declared.literal.Literal.{Literal}
 use Rattle.fm_bank.specs.Interning.{Held, is_atom, with_atoms}
 use Rattle.fm_bank.specs.declared.atom.Atom.{Atom}

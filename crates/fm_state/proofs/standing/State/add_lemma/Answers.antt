@@ -1,4 +1,4 @@
-use Rattle.std.proofs.Common.{List, map, sym, ap, subst, ◌∙◌}
+use Rattle.std.proofs.Common.{map, sym, ap, subst, ◌∙◌}
 use Rattle.fm_base.specs.Resolution.{AreDistinct}
 use Rattle.fm_bank.specs.Interning.{lit_in}
 use Rattle.fm_steps.specs.State.{State}

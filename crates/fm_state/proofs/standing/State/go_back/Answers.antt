@@ -1,4 +1,4 @@
-use Rattle.std.proofs.Common.{◌≤◌, List, ap, subst, arith}
+use Rattle.std.proofs.Common.{◌≤◌, ap, subst, arith}
 use Rattle.fm_steps.specs.State.{State}
 use Rattle.fm_trail.specs.Trail.{AreLevelled, level_of}
 use Rattle.fm_state.proofs.Going.{back_same}
