@@ -1,3 +1,4 @@
 pub mod Distinct
 pub mod Going
 pub mod Open
+pub mod Instances

@@ -2,6 +2,7 @@
 #![tactic(auto)]
 
 mod changes;
+mod grown;
 mod learnt;
 mod numbering;
 mod offer;
