@@ -1,0 +1,8 @@
+//! The state of the search machine, the changes of which its events are made, and what its menu offers by the state alone.
+#![tactic(auto)]
+
+mod offer;
+mod standing;
+
+pub use offer::{Due, Offer};
+pub use standing::State;
