@@ -1,8 +1,14 @@
 //! The state of the search machine, the changes of which its events are made, and what its menu offers by the state alone.
 #![tactic(auto)]
 
+mod groups;
+mod lemmas;
 mod offer;
+mod orders;
+mod sizes;
 mod standing;
+mod wanted;
 
+pub use lemmas::{bound_order, card_order};
 pub use offer::{Due, Offer};
 pub use standing::State;

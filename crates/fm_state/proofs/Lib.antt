@@ -1,0 +1,9 @@
+pub mod Cliques
+pub mod Conflicts
+pub mod Filling
+pub mod Finding
+pub mod Greatest
+pub mod Marking
+pub mod Opening
+pub mod Rows
+pub mod Summing

@@ -1,0 +1,36 @@
+-- The greatest false bounds of the sorts, one after the other.
+use Rattle.std.proofs.Common.{◌≡◌, ℕ, zero, suc, ◌+◌, ◌-◌, ◌<◌, List, [], ◌∷◌, ◌++◌, Some, None, refl, sym, ap, subst, ◌∙◌, arith}
+use Rattle.std.specs.Prelude.{Option}
+use Rattle.std.specs.Option.{option_map}
+use Rattle.std.proofs.lemmas.List.{append_assoc, append-nil}
+use Rattle.fm_steps.specs.Lemmas.{bounds_from, with_bound}
+use Rattle.fm_steps.specs.Sizes.{greatest_false}
+use Rattle.fm_steps.specs.State.{State}
+
+-- these, and then those from there on
+abbrev pub before : List ℕ → Option (List ℕ) → Option (List ℕ)
+before ks o = option_map (λ l. ks ++ l) o
+
+before_one : (ks : List ℕ) (k : ℕ) (o : Option (List ℕ)) → before ks (with_bound (Some k) o) ≡ before (ks ++ k ∷ []) o
+before_one ks k None = refl
+before_one ks k (Some l) = ap Some (sym (append_assoc ks (k ∷ []) l))
+
+left_of : (n i : ℕ) → i < n → n - i ≡ suc (n - (i + 1))
+left_of n i lt = omega (arith, lt)
+
+pub bound_on : (s : State) (n i k : ℕ) (ks : List ℕ) → i < n → Some k ≡ greatest_false s i → before ks (bounds_from s i (n - i)) ≡ bounds_from s 0 n → before (ks ++ k ∷ []) (bounds_from s (i + 1) (n - (i + 1))) ≡ bounds_from s 0 n
+bound_on s n i k ks lt is h =
+    let rest = bounds_from s (i + 1) (n - (i + 1)) in
+    sym (before_one ks k rest) ∙ ap (λ (o : Option ℕ). before ks (with_bound o rest)) is ∙ ap (λ m. before ks (bounds_from s i m)) (sym (left_of n i lt)) ∙ h
+
+none_step : (ks : List ℕ) (o : Option ℕ) (rest : Option (List ℕ)) → None ≡ o → before ks (with_bound o rest) ≡ None
+none_step ks None rest e = refl
+none_step ks (Some k) rest e = absurd cc
+
+pub bound_none : (s : State) (n i : ℕ) (ks : List ℕ) → i < n → None ≡ greatest_false s i → before ks (bounds_from s i (n - i)) ≡ bounds_from s 0 n → None ≡ bounds_from s 0 n
+bound_none s n i ks lt is h =
+    let rest = bounds_from s (i + 1) (n - (i + 1)) in
+    sym (none_step ks (greatest_false s i) rest is) ∙ ap (λ m. before ks (bounds_from s i m)) (sym (left_of n i lt)) ∙ h
+
+pub bound_end : (s : State) (n i : ℕ) (ks : List ℕ) → n - i ≡ 0 → before ks (bounds_from s i (n - i)) ≡ bounds_from s 0 n → Some ks ≡ bounds_from s 0 n
+bound_end s n i ks z h = ap Some (sym (append-nil ks)) ∙ ap (λ m. before ks (bounds_from s i m)) (sym z) ∙ h
