@@ -1,12 +1,10 @@
 -- What a test offers: the lemma of its clique, or nothing.
-use Rattle.std.proofs.Common.{◌≡◌, ℕ, List, [], ◌++◌, Some, None, refl, sym, ap, subst, ◌∙◌}
+use Rattle.std.proofs.Common.{◌≡◌, ℕ, List, [], Some, None, refl, ap}
 use Rattle.std.specs.Prelude.{OnOk, Option, Ok, Err, Result}
-use Rattle.std.proofs.lemmas.List.{append-nil}
 use Rattle.fm_base.specs.declared.ids.Reader.{Reader}
 use Rattle.fm_steps.specs.Lemmas.{Due}
 use Rattle.fm_steps.specs.Menu.{clique_offer, clique_offer_of, offer_for}
 use Rattle.fm_steps.specs.Picks.{clique_lemma}
-use Rattle.fm_steps.specs.Rows.{Offer}
 use Rattle.fm_steps.specs.State.{Pick, State}
 use Rattle.fm_state.specs.Groups.{clique_by, clique_in}
 

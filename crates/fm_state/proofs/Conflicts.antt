@@ -1,17 +1,14 @@
 -- The first false clause and the levels of its literals.
-use Rattle.std.proofs.Common.{◌≡◌, ◌≢◌, ℕ, zero, suc, ◌+◌, ◌<◌, ◌≤◌, ◌==◌, ◌&&◌, Bool, true, false, cond, List, [], ◌∷◌, Some, None, inl, inr, refl, sym, ap, subst, ◌∙◌, arith}
+use Rattle.std.proofs.Common.{◌≡◌, ◌≢◌, ℕ, zero, suc, ◌+◌, ◌<◌, ◌≤◌, ◌==◌, Bool, true, false, cond, List, [], ◌∷◌, Some, inl, inr, refl, sym, ap, subst, ◌∙◌, arith}
 use Rattle.std.specs.Prelude.{slice_get, ◌⊎◌}
-use Rattle.std.specs.List.{list_all}
-use Rattle.std.proofs.lemmas.Bool.{and_from, and_parts, cases_Bool, eq-eqb, eqb-true, false≢true}
+use Rattle.std.proofs.lemmas.Bool.{and_from, and_parts, cases_Bool, eq-eqb, eqb-true}
 use Rattle.fm_base.specs.Resolution.{Has}
 use Rattle.fm_base.specs.declared.ids.Lit.{Lit}
-use Rattle.fm_guide.specs.declared.event.Word.{Word}
-use Rattle.fm_sat.specs.Learning.{IsHighest, IsTopLevel}
-use Rattle.fm_sat.specs.Store.{HasNoFalse, IsFirstFalse}
+use Rattle.fm_sat.specs.Learning.{IsTopLevel}
+use Rattle.fm_sat.specs.Store.{HasNoFalse}
 use Rattle.fm_trail.specs.Trail.{are_false, level_on}
 use Rattle.fm_trail.specs.declared.entry.Entry.{Entry}
 use Rattle.fm_steps.specs.Menu.{conflict_at, conflicts_from, is_of_level_zero}
-use Rattle.fm_steps.specs.Rows.{Offer}
 use Rattle.fm_steps.specs.State.{Clause}
 
 all_zero : (es : List Entry) (c : Clause) → ((k : Lit) → Has c k → level_on es k ≡ 0) → is_of_level_zero es c ≡ true

@@ -1,18 +1,15 @@
 -- Values of known atoms by their numbers, and of an atom that is false at level 0 by the place of its entry.
-use Rattle.std.proofs.Common.{◌≡◌, ℕ, Bool, true, false, ◌==◌, ◌&&◌, not, cond, inl, inr, List, Some, None, refl, sym, ap, subst, ◌∙◌, arith}
-use Rattle.std.specs.Prelude.{Option, option_and_then, slice_get}
-use Rattle.std.specs.List.{list_any}
-use Rattle.std.proofs.lemmas.Bool.{and_from, and_parts, cases_Bool, eq-eqb, eqb-true, false≢true}
-use Rattle.std.proofs.lemmas.Option.{slice_get_within}
+use Rattle.std.proofs.Common.{◌≡◌, ℕ, Bool, true, false, ◌==◌, ◌&&◌, not, inl, inr, List, Some, None, sym, ap, subst, ◌∙◌}
+use Rattle.std.specs.Prelude.{option_and_then, slice_get}
+use Rattle.std.proofs.lemmas.Bool.{and_parts, cases_Bool, eq-eqb, eqb-true}
 use Rattle.fm_base.specs.Resolution.{Has}
 use Rattle.fm_base.specs.declared.ids.AtomId.{AtomId}
 use Rattle.fm_bank.specs.Interning.{StandOnce, find_atom, is_same_atom}
 use Rattle.fm_bank.specs.declared.atom.Atom.{Atom}
 use Rattle.fm_bank.proofs.Atoms.{is_same_atom-refl}
-use Rattle.fm_rounds.proofs.Members.{any_in, in_any}
+use Rattle.fm_rounds.proofs.Members.{in_any}
 use Rattle.fm_trail.specs.Trail.{HasOneEntry, place_of}
 use Rattle.fm_trail.specs.declared.entry.Entry.{Entry}
-use Rattle.fm_trail.proofs.Literals.{place_at}
 use Rattle.fm_trail.proofs.Places.{place_none, place_some}
 use Rattle.fm_steps.specs.Sizes.{is_refuted, is_refuted_by, is_refuting}
 use Rattle.fm_steps.specs.State.{State, atom_value, value_by}

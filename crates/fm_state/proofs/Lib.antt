@@ -1,5 +1,6 @@
 pub mod Cliques
 pub mod Conflicts
+pub mod Deciding
 pub mod Filling
 pub mod Finding
 pub mod Greatest

@@ -1,8 +1,6 @@
 -- Groups of offers as they are put behind one another, and what the fields of a state say for them.
-use Rattle.std.specs.Prelude.{◌≡◌, ℕ, ◌<◌, ◌==◌, ◌||◌, ◌&&◌, nat_lt, length, slice_get, Bool, true, false, if◌then◌else◌, List, [], ◌∷◌, ◌++◌, map, take, Option, Some, None}
+use Rattle.std.specs.Prelude.{◌≡◌, ℕ, ◌<◌, ◌==◌, ◌||◌, ◌&&◌, nat_lt, length, slice_get, Bool, true, false, if◌then◌else◌, List, [], ◌∷◌, ◌++◌, take, Option, Some, None}
 use Rattle.fm_base.specs.declared.ids.Reader.{Reader}
-use Rattle.fm_base.specs.declared.ids.TermId.{TermId}
-use Rattle.fm_bank.specs.Terms.{numbers}
 use Rattle.fm_bank.specs.declared.literal.Literal.{Literal}
 use Rattle.fm_steps.specs.Lemmas.{Due}
 use Rattle.fm_steps.specs.Rows.{Offer}

@@ -1,6 +1,7 @@
 //! The state of the search machine, the changes of which its events are made, and what its menu offers by the state alone.
 #![tactic(auto)]
 
+mod choices;
 mod groups;
 mod lemmas;
 mod offer;

@@ -1,5 +1,4 @@
-use Rattle.std.proofs.Common.{◌≡◌, Bool, List, Some, cond, sym, ap, subst, ◌∙◌}
-use Rattle.std.specs.Prelude.{slice_get}
+use Rattle.std.proofs.Common.{Bool, List, cond, sym, ap, subst}
 use Rattle.fm_guide.specs.declared.event.Word.{Word}
 use Rattle.fm_sat.specs.Learning.{IsTopLevel}
 use Rattle.fm_steps.specs.Rows.{Offer}

@@ -1,5 +1,5 @@
 use Rattle.std.proofs.Common.{◌≡◌, ◌++◌, ◌∷◌, [], List, ap, sym, subst, ◌∙◌}
-use Rattle.std.specs.Prelude.{OnOk, slice_get, Some}
+use Rattle.std.specs.Prelude.{OnOk}
 use Rattle.std.proofs.lemmas.List.{append-nil}
 use Rattle.fm_sat.specs.Store.{HasNoFalse, IsFirstFalse}
 use Rattle.fm_steps.specs.Menu.{conflict_at, conflicts_from}

@@ -1,4 +1,4 @@
-use Rattle.std.proofs.Common.{◌≡◌, ap, sym, subst, ◌∙◌}
+use Rattle.std.proofs.Common.{sym, ◌∙◌}
 use Rattle.fm_state.specs.Groups.{listed}
 use Rattle.fm_state.proofs.Opening.{asks_on, asks_some}
 use Rattle.fm_state.proofs.lemmas.asks_for.Goals as goal

@@ -1,4 +1,4 @@
-use Rattle.std.proofs.Common.{◌≡◌, ◌++◌, ◌<◌, ◌≤◌, ap, sym, subst, ◌∙◌, drop, arith}
+use Rattle.std.proofs.Common.{◌++◌, ◌<◌, ◌≤◌, drop, arith}
 use Rattle.std.specs.List.{flat_map, range_with_len}
 use Rattle.fm_steps.specs.Menu.{bound_order_at, bound_orders}
 use Rattle.fm_state.specs.Offers.{offers_in}

@@ -1,4 +1,4 @@
-use Rattle.std.proofs.Common.{◌≡◌, ◌++◌, ◌<◌, ◌≤◌, ap, sym, subst, ◌∙◌, drop, length, arith}
+use Rattle.std.proofs.Common.{◌++◌, ◌<◌, ◌≤◌, ap, sym, subst, ◌∙◌, drop, length, arith}
 use Rattle.std.specs.List.{flat_map, range_with_len}
 use Rattle.fm_bank.specs.Interning.{Held}
 use Rattle.fm_steps.specs.Menu.{card_order_at}

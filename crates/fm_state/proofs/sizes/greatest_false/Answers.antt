@@ -1,4 +1,4 @@
-use Rattle.std.proofs.Common.{◌≡◌, ◌-◌, ◌+◌, ◌≤◌, List, Some, length, ap, sym, subst, ◌∙◌, arith}
+use Rattle.std.proofs.Common.{◌≡◌, ◌-◌, ◌+◌, ◌≤◌, Some, length, subst, arith}
 use Rattle.std.specs.Prelude.{slice_get}
 use Rattle.fm_bank.specs.Interning.{Held}
 use Rattle.fm_state.proofs.Greatest.{greatest_on}

@@ -1,4 +1,4 @@
-use Rattle.std.proofs.Common.{◌≡◌, ◌≤◌, Bool, false, cond, [], drop, length}
+use Rattle.std.proofs.Common.{◌≡◌, ◌≤◌, false, cond, [], drop, length}
 use Rattle.std.specs.List.{flat_map}
 use Rattle.fm_bank.specs.declared.atom.Atom.{Atom}
 use Rattle.fm_steps.specs.Sizes.{greatest, holds, number_in}

@@ -1,4 +1,4 @@
-use Rattle.std.proofs.Common.{◌≡◌, ◌<◌, ◌≤◌, ◌+◌, false, length, ap, sym, subst, ◌∙◌, arith}
+use Rattle.std.proofs.Common.{◌≤◌, false, length, ap, sym, ◌∙◌, arith}
 use Rattle.fm_bank.specs.Interning.{Held}
 use Rattle.fm_steps.specs.Sizes.{card, holds}
 use Rattle.fm_state.proofs.Rows.{open_at}

@@ -1,4 +1,4 @@
-use Rattle.std.proofs.Common.{◌≡◌, List, Some, length, not, ap, sym, subst, ◌∙◌}
+use Rattle.std.proofs.Common.{◌≡◌, List, Some, length, not, subst}
 use Rattle.std.specs.Prelude.{slice_get}
 use Rattle.fm_steps.specs.Rows.{is_satisfied}
 use Rattle.fm_steps.specs.State.{Clause, Trail}

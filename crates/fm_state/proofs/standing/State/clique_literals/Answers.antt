@@ -1,8 +1,7 @@
-use Rattle.std.proofs.Common.{◌≡◌, ◌++◌, ℕ, List, Some, None, ap, sym, subst, ◌∙◌}
+use Rattle.std.proofs.Common.{◌≡◌, ◌++◌, ℕ, List, Some, None, ap, sym, ◌∙◌}
 use Rattle.std.specs.Prelude.{Option}
 use Rattle.fm_bank.specs.Terms.{numbers}
 use Rattle.fm_steps.specs.State.{Pick}
-use Rattle.fm_state.specs.Groups.{clique_in}
 use Rattle.fm_state.proofs.standing.State.clique_literals.Goals as goal
 
 pub unreachable-requires : goal.unreachable-requires

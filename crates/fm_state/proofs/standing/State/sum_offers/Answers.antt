@@ -1,4 +1,4 @@
-use Rattle.std.proofs.Common.{◌≡◌, ◌++◌, ap, sym, subst, ◌∙◌}
+use Rattle.std.proofs.Common.{◌++◌, ap, ◌∙◌}
 use Rattle.fm_steps.specs.Lemmas.{bounds_from}
 use Rattle.fm_steps.specs.Menu.{bound_orders, card_orders, sum_offers_at}
 use Rattle.fm_state.specs.Offers.{offers_in}
