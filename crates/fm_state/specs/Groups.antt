@@ -1,16 +1,15 @@
 -- Groups of offers as they are put behind one another, and what the fields of a state say for them.
 use Rattle.std.specs.Prelude.{◌≡◌, ℕ, ◌<◌, ◌==◌, ◌||◌, ◌&&◌, nat_lt, length, slice_get, Bool, true, false, if◌then◌else◌, List, [], ◌∷◌, ◌++◌, take, Option, Some, None}
+use Rattle.std.specs.List.{flat_map, list_any, range_with_len}
+use Rattle.fm_base.specs.declared.ids.Lit.{Lit}
 use Rattle.fm_base.specs.declared.ids.Reader.{Reader}
 use Rattle.fm_bank.specs.declared.literal.Literal.{Literal}
-use Rattle.fm_steps.specs.Lemmas.{Due}
-use Rattle.fm_steps.specs.Rows.{Offer}
-use Rattle.fm_steps.specs.Sizes.{is_unvalued, lit}
 use Rattle.fm_bank.specs.declared.atom.Atom.{Atom}
 use Rattle.fm_trail.specs.Trail.{head_of}
+use Rattle.fm_steps.specs.Rows.{Offer}
+use Rattle.fm_steps.specs.Sizes.{is_unvalued, lit}
 use Rattle.fm_steps.specs.Menu.{card_order_at, free_decisions, is_wanted, size_decisions, split_offers}
 use Rattle.fm_steps.specs.State.{Clause, Pick, State}
-use Rattle.fm_base.specs.declared.ids.Lit.{Lit}
-use Rattle.std.specs.List.{flat_map, list_any, range_with_len}
 use Rattle.fm_state.specs.Offers.{offers_in}
 use Rattle.fm_state.specs.declared.offer.Offer.{Offer as TheOffer}
 
@@ -29,11 +28,6 @@ asks_for s [] = Some false
 asks_for s (l ∷ []) = if is_unvalued s l.atom then Some true else None
 asks_for s (l ∷ (k ∷ ks)) = None
 
-abbrev pub asked_offers : Reader → Due → Option Bool → List Offer
-asked_offers r d None = []
-asked_offers r d (Some true) = Offer.Imply r d ∷ []
-asked_offers r d (Some false) = Offer.Lemma r d ∷ []
-
 -- the terms of a pick that is a clique, and the pair of one that isn't
 abbrev pub clique_by : Option (ℕ × ℕ) → List ℕ → Option (List ℕ)
 clique_by None terms = Some terms
@@ -47,6 +41,7 @@ abbrev pub pair_of : Option Pick → Option (ℕ × ℕ)
 pair_of None = None
 pair_of (Some pick) = pick.pair
 
+-- whether the clause has the atom
 abbrev pub has_atom : ℕ → Clause → Bool
 has_atom a c = list_any (λ (l : Lit). l.atom.0 == a) c
 
@@ -68,6 +63,7 @@ take_by s r = if nat_lt (head_of s.trail.heads r) (length s.trail.entries) then 
 abbrev pub card_orders_of : State → ℕ → List Offer
 card_orders_of s u = flat_map (card_order_at s u) (range_with_len 0 (length s.held.atoms))
 
+-- an atom both ways, first negative
 abbrev pub both_if : Bool → Atom → List Offer
 both_if b a = if b then Offer.Decide (lit false a) ∷ (Offer.Decide (lit true a) ∷ []) else []
 
@@ -77,5 +73,6 @@ first_decisions s =
     if s.free then free_decisions s
     else (if is_unvalued s (Atom.Bound s.bound) then Offer.Decide (lit true (Atom.Bound s.bound)) ∷ [] else size_decisions s)
 
+-- the pairs of all tests
 abbrev pub split_all : State → List Offer
 split_all s = flat_map (split_offers s) s.picks

@@ -12,7 +12,7 @@ use crate::lemmas::{
     sum_lemma,
 };
 use crate::offer::{Due, Offer};
-use crate::sizes::is_known;
+use crate::sizes::{holds, is_known};
 use crate::standing::State;
 use fm_bank::{Atom, Literal};
 use fm_base::{Memory, Reader, SortId};
@@ -79,6 +79,9 @@ fn put_sum_of(state: &State, offers: &mut Vec<Offer>, numbers: &[u64]) -> Result
 fn put_sum(state: &State, offers: &mut Vec<Offer>) -> Result<(), Memory>
     ensures { OnOk result (offers_in offers.new.items ≡ offers_in offers.old.items ++ sum_offers_at state.now (bounds_from state.now 0 state.now.held.sig.sorts)) }
 {
+    if !holds(state, true, Atom::Bound(state.bound())) {
+        return Ok(());
+    }
     match bounds(state)? {
         None => Ok(()),
         Some(numbers) => put_sum_of(state, offers, numbers.as_slice()),
