@@ -2,3 +2,13 @@ pub mod Distinct
 pub mod Going
 pub mod Open
 pub mod Instances
+pub mod Cliques
+pub mod Conflicts
+pub mod Deciding
+pub mod Filling
+pub mod Finding
+pub mod Greatest
+pub mod Marking
+pub mod Opening
+pub mod Rows
+pub mod Summing

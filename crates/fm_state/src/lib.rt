@@ -2,11 +2,18 @@
 #![tactic(auto)]
 
 mod changes;
+mod choices;
+mod groups;
 mod grown;
 mod learnt;
+mod lemmas;
 mod numbering;
 mod offer;
+mod orders;
+mod sizes;
 mod standing;
+mod wanted;
 
+pub use lemmas::{bound_order, card_order};
 pub use offer::{Due, Offer};
 pub use standing::State;

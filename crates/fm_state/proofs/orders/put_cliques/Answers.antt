@@ -1,0 +1,18 @@
+use Rattle.std.proofs.Common.{◌≡◌, ◌<◌, Some, None, get_or, length, subst}
+use Rattle.std.specs.Prelude.{Option, slice_get}
+use Rattle.std.proofs.lemmas.Option.{slice_get-get_or}
+use Rattle.fm_steps.specs.Menu.{cliques_from}
+use Rattle.fm_steps.specs.State.{Pick}
+use Rattle.fm_state.specs.Offers.{offers_in}
+use Rattle.fm_state.proofs.Filling.{cliques_on}
+use Rattle.fm_state.proofs.orders.put_cliques.Goals as goal
+
+pub loop-sort-preserved : goal.loop-sort-preserved
+loop-sort-preserved c =
+    let s = c.args.state.now in
+    let i = c.loop-sort.sort in
+    let lt : i < length s.picks = subst (λ n. i < n) c.pick_count-sort-end.ensures c.loop-sort-test.true in
+    let none : Option Pick = None in
+    let p : Option Pick = get_or s.picks i none in
+    let at : slice_get s.picks i ≡ Some p = slice_get-get_or s.picks i none lt in
+    cliques_on s s.picks i p (offers_in c.loop-sort.offers.items) (offers_in c.put_clique.new.offers.items) (offers_in c.args.offers.now.items) (cliques_from s 0 s.picks) at (c.in_ok-put_clique.ensures p at) c.loop-sort.invariant
