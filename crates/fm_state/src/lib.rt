@@ -7,6 +7,7 @@ mod learnt;
 mod numbering;
 mod offer;
 mod standing;
+mod start;
 
 pub use offer::{Due, Offer};
 pub use standing::State;
