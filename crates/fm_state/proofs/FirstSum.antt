@@ -1,5 +1,5 @@
 -- The first sum lemma.
-use Rattle.std.proofs.Common.{◌≡◌, ℕ, zero, suc, ◌+◌, ◌-◌, ◌<◌, ◌≤◌, true, false, nat_lt, List, [], ◌∷◌, ◌++◌, map, refl, ap, arith}
+use Rattle.std.proofs.Common.{◌≡◌, ℕ, zero, suc, ◌+◌, ◌-◌, ◌≤◌, true, false, nat_lt, List, [], ◌∷◌, ◌++◌, map, refl, ap, arith}
 use Rattle.std.specs.List.{list_all, range_with_len}
 use Rattle.std.proofs.lemmas.Bool.{and_from, lt-ltb, true≢false}
 use Rattle.fm_base.specs.Resolution.{AreDistinct}
@@ -11,8 +11,6 @@ use Rattle.fm_bank.specs.declared.atom.Atom.{Atom}
 use Rattle.fm_bank.specs.declared.literal.Literal.{Literal}
 use Rattle.fm_rounds.proofs.Members.{in_range}
 use Rattle.fm_steps.specs.Sizes.{card, lit}
-use Rattle.fm_steps.specs.Start.{with_first_sum}
-use Rattle.fm_steps.specs.State.{State, with_literals}
 use Rattle.fm_steps.proofs.Lists.{distinct_push}
 
 abbrev cards : ℕ → ℕ → List Literal
@@ -49,11 +47,3 @@ module _ (sig : Sig) (terms : List Term) (k : ℕ) where
 
 pub sum_atoms : (sig : Sig) (terms : List Term) (m : ℕ) → m ≡ sig.sorts → list_all (λ (l : Literal). is_atom sig terms l.atom) (sum_lits m) ≡ true
 sum_atoms sig terms m e = cards_atoms sig terms (m - 1) 0 m (omega (arith, e))
-
-pub sum_is : (m : ℕ) (s : State) → 0 < m → with_literals (sum_lits m) s ≡ with_first_sum m s
-sum_is zero s lt = absurd (omega (arith, lt))
-sum_is (suc m) s lt = let one : suc m - 1 ≡ m = omega arith in ap (λ (k : ℕ). with_literals (cards 0 (suc m) ++ lit false (Atom.Bound k) ∷ []) s) one
-
-pub no_sum : (m : ℕ) (s : State) → m ≡ 0 → s ≡ with_first_sum m s
-no_sum zero s e = refl
-no_sum (suc m) s e = absurd (omega (arith, e))
