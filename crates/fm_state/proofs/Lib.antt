@@ -12,3 +12,6 @@ pub mod Marking
 pub mod Opening
 pub mod Rows
 pub mod Summing
+pub mod Starting
+pub mod Registered
+pub mod FirstSum

@@ -1,3 +1,4 @@
 pub mod Groups
 pub mod Offers
 pub mod Stands
+pub mod Begins

@@ -12,6 +12,9 @@ mod offer;
 mod orders;
 mod sizes;
 mod standing;
+mod start;
+#[cfg(test)]
+mod tests;
 mod wanted;
 
 pub use lemmas::{bound_order, card_order};
