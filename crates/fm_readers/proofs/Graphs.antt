@@ -156,7 +156,7 @@ get_map f [] i x e = cc e
 get_map f (y ∷ ys) zero x e = (let same : y ≡ x = cc e in ap (λ z. Some (f z)) same)
 get_map f (y ∷ ys) (suc i) x e = get_map f ys i x e
 
-how_many : (atoms : List Atom) (es : List Entry) (g : Graph) → HasRead atoms es g → length g.levels ≡ level_of es
+pub how_many : (atoms : List Atom) (es : List Entry) (g : Graph) → HasRead atoms es g → length g.levels ≡ level_of es
 how_many atoms es g r = ap length r.levels ∙ length-map (levels_of es) (facts_read atoms) ∙ length-map (range_with_len 0 (level_of es)) (λ level. up_to level es) ∙ length-range_with_len 0 (level_of es)
 
 pub goes_back : (held : Held) (level : ℕ) (g u h : Graph) → level < length g.levels → u.levels ≡ take level g.levels → slice_get g.levels level ≡ Some u.facts → h.facts ≡ u.facts → h.levels ≡ u.levels → GoesBack held level g h

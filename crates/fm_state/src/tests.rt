@@ -31,8 +31,22 @@ fn begun(rt: &impl Abort, alloc: Global) -> Result<State, Memory> {
         bank.atom(atom)?;
     }
     let mut store = Store::new(alloc);
-    store.add(&[lit(b'0', b'-')])?;
-    store.add(&[lit(b'0', b'+'), lit(b'1', b'-')])?;
+    let card = AtomId(0);
+    let bound = AtomId(1);
+    store.add(&[Lit {
+        atom: card,
+        positive: false,
+    }])?;
+    store.add(&[
+        Lit {
+            atom: card,
+            positive: true,
+        },
+        Lit {
+            atom: bound,
+            positive: false,
+        },
+    ])?;
     Ok(State {
         alloc,
         bound: 1,

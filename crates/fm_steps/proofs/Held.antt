@@ -70,7 +70,7 @@ pick_fits : (held : Held) (u : ℕ) (p : Option Pick) → ((pick : Pick) → p �
 pick_fits held u None h l q = absurd q
 pick_fits held u (Some pick) h l q = clique_fits held u pick.pair pick.terms (λ n r. all_in (is_term_of_sort held u) pick.terms n (h pick refl).sorts r) l q
 
-picks_fit : (held : Held) (ps : List (Option Pick)) → ((u : ℕ) (pick : Pick) → slice_get ps u ≡ Some (Some pick) → IsPickOfSort held u pick) → list_all (λ (l : Literal). is_atom held.sig held.terms l.atom) (flat_map pick_literals ps) ≡ true
+pub picks_fit : (held : Held) (ps : List (Option Pick)) → ((u : ℕ) (pick : Pick) → slice_get ps u ≡ Some (Some pick) → IsPickOfSort held u pick) → list_all (λ (l : Literal). is_atom held.sig held.terms l.atom) (flat_map pick_literals ps) ≡ true
 picks_fit held ps h =
     in_all (λ (l : Literal). is_atom held.sig held.terms l.atom) (flat_map pick_literals ps) (λ l q.
     let p = in_flat pick_literals l ps q in

@@ -21,15 +21,15 @@ use Rattle.fm_steps.proofs.Known.{adds, knows}
 use Rattle.fm_steps.proofs.Lists.{Has-end}
 
 -- what changes at the start are atoms and clauses alone
-record Rest : Type 0 where
-  trail : Trail
-  added : List (ℕ × List ℕ)
-  instances : ℕ
-  decisions : ℕ
-  free : Bool
-  bound : ℕ
+pub record Rest : Type 0 where
+  pub trail : Trail
+  pub added : List (ℕ × List ℕ)
+  pub instances : ℕ
+  pub decisions : ℕ
+  pub free : Bool
+  pub bound : ℕ
 
-abbrev rest_of : State → Rest
+abbrev pub rest_of : State → Rest
 rest_of s = record { trail = s.trail; added = s.added; instances = s.instances; decisions = s.decisions; free = s.free; bound = s.bound }
 
 pub record IsClean (s : State) : Type 0 where
@@ -95,7 +95,7 @@ first_clean p =
     let s3 : State = with_first_sum p.sig.sorts s2 in
     clean_knows s3 (lit true (Atom.Bound p.sig.sorts) ∷ []) (sum_clean p.sig.sorts s2 (elements_clean (range_with_len 0 p.sig.sorts) s1 (ground_clean p.clauses (empty_state p) (empty_clean p))))
 
-first_rest : (p : Problem) → rest_of (first_state p) ≡ rest_of (empty_state p)
+pub first_rest : (p : Problem) → rest_of (first_state p) ≡ rest_of (empty_state p)
 first_rest p =
     let s1 : State = with_ground_clauses p.clauses (empty_state p) in
     let s2 : State = with_elements (range_with_len 0 p.sig.sorts) s1 in

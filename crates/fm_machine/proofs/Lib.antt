@@ -1,0 +1,5 @@
+pub mod Beginning
+pub mod Bounds
+pub mod Chosen
+pub mod Fronts
+pub mod Tying
