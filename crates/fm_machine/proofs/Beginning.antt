@@ -1,12 +1,12 @@
 -- At the start the readers have read nothing.
-use Rattle.std.proofs.Common.{◌≡◌, ℕ, List, [], take, refl, sym, ap, subst, ◌∙◌}
+use Rattle.std.proofs.Common.{◌≡◌, List, [], take, refl, sym, ap, subst, ◌∙◌}
 use Rattle.fm_base.specs.declared.ids.Reader.{Reader}
 use Rattle.fm_bank.specs.Interning.{Held}
 use Rattle.fm_cong.specs.Held.{Held as Graph}
 use Rattle.fm_readers.specs.Graphs.{IsGraphOf}
 use Rattle.fm_steps.specs.Facts.{AtomsAreKnown}
 use Rattle.fm_steps.specs.Start.{first_state}
-use Rattle.fm_steps.specs.State.{Problem, State, Trail, read_by}
+use Rattle.fm_steps.specs.State.{Problem, State, read_by}
 use Rattle.fm_steps.proofs.Starts.{Rest, first_clean, first_rest}
 use Rattle.fm_trail.specs.Trail.{head_of, heads_at}
 use Rattle.fm_trail.specs.declared.entry.Entry.{Entry}

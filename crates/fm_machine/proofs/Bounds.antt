@@ -1,12 +1,12 @@
 -- Bounds on the size of a sort by the trail.
-use Rattle.std.proofs.Common.{◌≡◌, ℕ, zero, suc, ◌+◌, ◌<◌, min, Bool, true, false, if◌then◌else◌, List, [], ◌∷◌, ◌++◌, drop, length, Option, Some, None, refl, sym, ap, subst, ◌∙◌, arith}
+use Rattle.std.proofs.Common.{◌≡◌, ℕ, zero, suc, ◌+◌, ◌<◌, min, Bool, true, false, if◌then◌else◌, List, [], ◌∷◌, ◌++◌, drop, length, Option, Some, None, refl, sym, ap, ◌∙◌, arith}
 use Rattle.std.specs.Prelude.{slice_get}
 use Rattle.std.specs.Option.{option_and_then}
 use Rattle.std.specs.List.{cons_option, flat_map}
 use Rattle.fm_bank.specs.Interning.{IsHeld, find_atom}
 use Rattle.fm_bank.specs.declared.atom.Atom.{Atom}
 use Rattle.fm_bank.proofs.Once.{one_atom}
-use Rattle.fm_steps.specs.Sizes.{holds, least, least_with, number_in, numbers_with}
+use Rattle.fm_steps.specs.Sizes.{holds, least, least_with, number_in}
 use Rattle.fm_steps.specs.State.{State, value_by}
 use Rattle.fm_steps.proofs.InRow.{has_known}
 use Rattle.fm_steps.proofs.Lists.{Has-get}

@@ -1,10 +1,10 @@
 -- The tests that a graph gives are chosen as the machine chooses, and the graphs stay tied as atoms become known.
-use Rattle.std.proofs.Common.{◌≡◌, ℕ, zero, suc, ◌+◌, ◌<◌, true, List, [], ◌∷◌, ◌++◌, length, map, Option, Some, None, refl, sym, ap, subst, ◌∙◌, arith}
+use Rattle.std.proofs.Common.{◌≡◌, ℕ, suc, ◌+◌, true, List, [], ◌∷◌, length, map, Option, Some, None, refl, sym, ap, subst, ◌∙◌, arith}
 use Rattle.std.specs.Prelude.{slice_get}
 use Rattle.std.specs.List.{flat_map, list_all}
 use Rattle.std.proofs.lemmas.List.{append-nil}
 use Rattle.fm_base.specs.declared.ids.Reader.{Reader}
-use Rattle.fm_bank.specs.Interning.{Held, is_atom, with_atoms}
+use Rattle.fm_bank.specs.Interning.{is_atom, with_atoms}
 use Rattle.fm_bank.specs.Tests.{Tests}
 use Rattle.fm_bank.specs.declared.literal.Literal.{Literal}
 use Rattle.fm_bank.proofs.Growing.{atoms_fronts}
@@ -27,9 +27,8 @@ use Rattle.fm_steps.proofs.Closing.{each_known}
 use Rattle.fm_steps.proofs.Held.{picks_fit}
 use Rattle.fm_steps.proofs.Tested.{picks_sorts}
 use Rattle.fm_trail.specs.Trail.{AreOver, head_of}
-use Rattle.fm_trail.specs.declared.entry.Entry.{Entry}
 use Rattle.fm_trail.proofs.Places.{get_front}
-use Rattle.fm_machine.specs.Settling.{ArePicksBelow, ArePicksBy, IsPickBy}
+use Rattle.fm_machine.specs.Settling.{ArePicksBy, IsPickBy}
 use Rattle.fm_machine.specs.Ties.{AreTied}
 use Rattle.fm_readers.specs.Agreeing.{pair_in as read_pair, pick_in as picked_in}
 
@@ -77,7 +76,7 @@ settles s t g h ps tied a after = record {
 }
 
 -- Atoms become known, and nothing else changes for the graphs.
-over_read : (s : State) (r : Reader) → AtomsAreKnown s → AreOver (length s.held.atoms) (read_by r s)
+pub over_read : (s : State) (r : Reader) → AtomsAreKnown s → AreOver (length s.held.atoms) (read_by r s)
 over_read s r known i e at = known.trail i e (get_front s.trail.entries (head_of s.trail.heads r) i e at).1
 
 more : (s : State) (ls : List Literal) → IsMore s.held (record s.held { atoms = with_atoms s.held.atoms ls })

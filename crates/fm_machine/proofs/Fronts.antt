@@ -1,10 +1,8 @@
 -- What the readers have read, one entry more, and after going back.
-use Rattle.std.proofs.Common.{◌≡◌, ℕ, zero, suc, ◌+◌, ◌-◌, ◌<◌, ◌≤◌, List, [], ◌∷◌, ◌++◌, length, take, Some, inl, inr, refl, sym, ap, subst, ◌∙◌, arith}
+use Rattle.std.proofs.Common.{◌≡◌, ℕ, zero, suc, ◌+◌, ◌-◌, ◌<◌, List, [], ◌∷◌, ◌++◌, take, Some, ap, subst, ◌∙◌, arith}
 use Rattle.std.specs.Prelude.{slice_get}
-use Rattle.fm_base.specs.declared.ids.Reader.{Reader}
 use Rattle.fm_trail.specs.Trail.{AreLevelled, decisions_in, level_of}
 use Rattle.fm_trail.specs.declared.entry.Entry.{Entry}
-use Rattle.fm_trail.proofs.Levels.{levelled_front}
 
 level_step : (n k : ℕ) (f e : Entry) (fs : List Entry) → f.level ≡ n + decisions_in f → e.level ≡ f.level + level_of (take (suc k) fs) → e.level ≡ n + (decisions_in f + level_of (take (suc k) fs))
 level_step n k f e fs a b = omega (arith, a, b)

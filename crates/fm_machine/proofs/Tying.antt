@@ -1,14 +1,12 @@
--- The graphs stay tied to the state as their readers read on and as the trail goes back.
+-- The graphs stay tied to the state as their readers read on.
 use Rattle.std.proofs.Common.{◌≡◌, ℕ, ◌+◌, List, ◌∷◌, [], ◌++◌, length, take, Some, refl, sym, ap, subst, ◌∙◌}
 use Rattle.std.specs.Prelude.{slice_get}
 use Rattle.fm_bank.specs.Interning.{Held}
 use Rattle.fm_base.specs.declared.ids.Reader.{Reader}
 use Rattle.fm_cong.specs.Held.{Held as Graph}
-use Rattle.fm_readers.specs.Graphs.{GoesBack, HasTerms, IsGraphOf, ReadsOn}
-use Rattle.fm_steps.specs.Facts.{TrailIsExplained}
-use Rattle.fm_steps.specs.State.{State, back_to, read_by, read_one}
-use Rattle.fm_steps.proofs.Readers.{read_back}
-use Rattle.fm_trail.specs.Trail.{AreLevelled, head_of, up_to, with_head}
+use Rattle.fm_readers.specs.Graphs.{HasTerms, IsGraphOf, ReadsOn}
+use Rattle.fm_steps.specs.State.{State, read_by, read_one}
+use Rattle.fm_trail.specs.Trail.{AreLevelled, head_of, with_head}
 use Rattle.fm_trail.specs.declared.entry.Entry.{Entry}
 use Rattle.fm_trail.specs.declared.heads.Heads.{Heads}
 use Rattle.fm_trail.proofs.Levels.{levelled_front}
@@ -53,22 +51,4 @@ regions_read s t r bank e g h k is after held tied levels at terms on =
     subst (λ (x : State). AreTied x g k) (sym now) (record {
       congruence = tied.congruence;
       regions = reads s Reader.Regions bank e h k (held ∙ ap (λ (x : State). x.held) now) levels here tied.regions terms on;
-    })
-
--- the graphs after going back
-goes : (s : State) (r : Reader) (level : ℕ) (bank : Held) (g k : Graph) → TrailIsExplained s → bank ≡ s.held → IsGraphOf s.held (read_by r s) g → HasTerms bank (length bank.terms) k → GoesBack bank level g k
-    → IsGraphOf s.held (read_by r (back_to level s)) k
-goes s r level bank g k explained held tied terms back =
-    subst (λ (xs : List Entry). IsGraphOf s.held xs k) (sym (read_back s r level explained)) (record {
-      terms = subst (λ (b : Held). HasTerms b (length b.terms) k) held terms;
-      read = subst (λ (b : Held). GoesBack b level g k) held back (read_by r s) (levelled_front 0 s.trail.entries (head_of s.trail.heads r) explained.levels) tied.read;
-    })
-
-pub both_go : (s t : State) (level : ℕ) (bank : Held) (g g' h h' : Graph) → TrailIsExplained s → t ≡ back_to level s → bank ≡ t.held → AreTied s g h → HasTerms bank (length bank.terms) g' → GoesBack bank level g g'
-    → HasTerms bank (length bank.terms) h' → GoesBack bank level h h' → AreTied t g' h'
-both_go s t level bank g g' h h' explained after held tied gt gb ht hb =
-    let same = held ∙ ap (λ (x : State). x.held) after in
-    subst (λ (x : State). AreTied x g' h') (sym after) (record {
-      congruence = goes s Reader.Congruence level bank g g' explained same tied.congruence gt gb;
-      regions = goes s Reader.Regions level bank h h' explained same tied.regions ht hb;
     })

@@ -1,5 +1,5 @@
 -- The tests of the sorts, as a graph gives them.
-use Rattle.std.specs.Prelude.{◌≡◌, ◌<◌, ℕ, List, min, length, slice_get, Option, Some, None}
+use Rattle.std.specs.Prelude.{◌≡◌, ℕ, List, min, length, slice_get, Option, Some, None}
 use Rattle.fm_base.specs.declared.ids.SortId.{SortId}
 use Rattle.fm_cong.specs.Held.{Held as Graph}
 use Rattle.fm_region.specs.Picks.{IsPickOf}

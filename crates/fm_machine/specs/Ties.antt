@@ -1,7 +1,8 @@
 -- A state with the graphs of its two readers of equalities: each has all registered terms, and has read what its reader has.
+use Rattle.std.specs.Prelude.{length}
 use Rattle.fm_base.specs.declared.ids.Reader.{Reader}
 use Rattle.fm_cong.specs.Held.{Held as Graph}
-use Rattle.fm_readers.specs.Graphs.{IsGraphOf}
+use Rattle.fm_readers.specs.Graphs.{HasTerms, IsGraphOf}
 use Rattle.fm_steps.specs.Runs.{IsStart}
 use Rattle.fm_steps.specs.State.{Problem, State, read_by}
 use Rattle.fm_machine.specs.declared.held.Search.{Search}
@@ -17,3 +18,8 @@ IsTied s = AreTied s.state s.congruence s.regions
 pub record IsStarted (p : Problem) (s : Search) : Type 0 where
   pub start : IsStart p s.state
   pub tied : IsTied s
+
+-- both graphs have all registered terms
+pub record HasBothTerms (s : Search) : Type 0 where
+  pub congruent : HasTerms s.state.held (length s.state.held.terms) s.congruence
+  pub sized : HasTerms s.state.held (length s.state.held.terms) s.regions

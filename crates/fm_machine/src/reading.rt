@@ -1,16 +1,21 @@
 ghost use Rattle.std.specs.Prelude.{◌≡◌, ◌<◌, length, OnOk};
+ghost use Rattle.fm_machine.specs.Moves.{Moves};
 ghost use Rattle.fm_machine.specs.Ties.{IsTied};
-ghost use Rattle.fm_steps.specs.Facts.{AtomsAreKnown, HeadsAreWithin, TrailIsExplained};
-ghost use Rattle.fm_steps.specs.State.{back_to, read_by, read_one};
+ghost use Rattle.fm_sat.specs.Store.{HasNoFalse};
+ghost use Rattle.fm_steps.specs.Rows.{TakeRow};
+ghost use Rattle.fm_steps.specs.Facts.{AtomsAreKnown, TrailIsExplained};
+ghost use Rattle.fm_steps.specs.State.{read_by, read_one};
 ghost use Rattle.fm_trail.specs.Trail.{head_of, level_of};
 
 use crate::held::Search;
+use crate::settling::settle;
 use fm_base::{Memory, Reader};
 use fm_readers::read;
 use fm_state::State;
+use std::alloc::Global;
 
-/// The reader reads one entry more.
-pub fn take(search: &mut Search, reader: Reader) -> Result<(), Memory>
+// The reader reads one entry more.
+fn read_on(search: &mut Search, reader: Reader) -> Result<(), Memory>
     requires tied { IsTied search.old }
     requires explained { TrailIsExplained search.old.state }
     requires known { AtomsAreKnown search.old.state }
@@ -36,7 +41,7 @@ pub fn take(search: &mut Search, reader: Reader) -> Result<(), Memory>
 }
 
 // How many levels are open for the reader: the level of the last entry that it has read.
-fn levels_read(state: &State, reader: Reader) -> usize
+pub(crate) fn levels_read(state: &State, reader: Reader) -> usize
     requires { TrailIsExplained state.now }
     ensures { result ≡ level_of (read_by reader state.now) }
 {
@@ -49,19 +54,17 @@ fn levels_read(state: &State, reader: Reader) -> usize
     }
 }
 
-/// The trail goes back to a level, and with it what each reader has read.
-pub fn go_back(search: &mut Search, level: usize) -> Result<(), Memory>
+/// Take: where no clause is false, a reader that hasn't read all reads one entry more.
+pub fn take(alloc: Global, search: &mut Search, reader: Reader) -> Result<(), Memory>
     requires tied { IsTied search.old }
     requires explained { TrailIsExplained search.old.state }
-    requires heads { HeadsAreWithin search.old.state }
-    ensures state { OnOk result (search.new.state ≡ back_to level search.old.state) }
+    requires known { AtomsAreKnown search.old.state }
+    requires quiet { HasNoFalse search.old.state.clauses search.old.state.trail.entries }
+    requires left { head_of search.old.state.trail.heads reader < length search.old.state.trail.entries }
+    ensures moved { OnOk result (Moves (λ s t. TakeRow s reader t) search.old.state search.new.state) }
     ensures tied { OnOk result (IsTied search.new) }
 {
-    let congruence = levels_read(&search.state, Reader::Congruence);
-    let regions = levels_read(&search.state, Reader::Regions);
-    search.state.go_back(level);
-    let bank = search.state.bank();
-    fm_readers::go_back(&mut search.congruence, bank, congruence, level)?;
-    fm_readers::go_back(&mut search.regions, bank, regions, level)?;
+    read_on(search, reader)?;
+    settle(alloc, search)?;
     Ok(())
 }

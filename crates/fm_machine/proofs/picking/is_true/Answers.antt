@@ -1,4 +1,4 @@
-use Rattle.std.proofs.Common.{List, sym, ap, subst, ◌∙◌}
+use Rattle.std.proofs.Common.{sym, ap, subst, ◌∙◌}
 use Rattle.fm_bank.specs.Interning.{Held, IsHeld}
 use Rattle.fm_trail.specs.Trail.{value_of}
 use Rattle.fm_trail.specs.Trail.{Held as Trail}

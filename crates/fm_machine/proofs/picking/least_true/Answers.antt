@@ -1,4 +1,4 @@
-use Rattle.std.proofs.Common.{◌<◌, ◌+◌, List, Option, ℕ, length, drop, ap, ◌∙◌, arith}
+use Rattle.std.proofs.Common.{◌<◌, ◌+◌, Option, ℕ, length, drop, ap, ◌∙◌, arith}
 use Rattle.fm_bank.specs.Interning.{Held}
 use Rattle.fm_steps.specs.Sizes.{least}
 use Rattle.fm_machine.specs.Settling.{both}
