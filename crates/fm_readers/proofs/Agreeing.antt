@@ -1,29 +1,24 @@
 -- The facts of a graph are those of the literals that it has read.
-use Rattle.std.proofs.Common.{◌≡◌, ℕ, zero, suc, ◌+◌, ◌<◌, ◌≤◌, ◌⊎◌, Bool, true, false, not, ◌&&◌, ◌||◌, cond, List, [], ◌∷◌, ◌++◌, length, map, take, Option, Some, None, inl, inr, refl, sym, ap, subst, ◌∙◌, arith}
-use Rattle.std.specs.Prelude.{◌==◌, nat_lt, slice_get}
-use Rattle.std.specs.List.{All, Contains, cons_option, filter, filter_map, flat_map, list_all, list_any, range_with_len}
-use Rattle.std.specs.Str.{bytes_eq}
-use Rattle.std.proofs.lemmas.Bool.{and_from, and_parts, cases_Bool, cases_lt, eq-eqb, eqb-true, false_from_ne_true, false≢true, lt-ltb, ltb-true, or_cases, or_left, or_right}
-use Rattle.std.proofs.lemmas.List.Elements.{All-contains}
+use Rattle.std.proofs.Common.{◌≡◌, ℕ, ◌⊎◌, Bool, true, false, not, cond, List, [], ◌∷◌, map, Option, Some, None, inl, inr, refl, sym, ap, subst, ◌∙◌}
+use Rattle.std.specs.Prelude.{slice_get}
+use Rattle.std.specs.List.{Contains, cons_option, filter_map}
+use Rattle.std.proofs.lemmas.Bool.{false≢true}
 use Rattle.fm_base.specs.Resolution.{Has}
-use Rattle.fm_base.proofs.Resolution.{has_mapped, mapped_has}
-use Rattle.fm_base.specs.declared.ids.Lit.{Lit}
-use Rattle.fm_bank.specs.Closure.{AreApart, AreSides, Follows, IsClosed, Shape, no, object, yes}
+use Rattle.fm_base.proofs.Resolution.{mapped_has}
+use Rattle.fm_bank.specs.Closure.{AreApart, AreSides, Follows, Shape, no, object, yes}
 use Rattle.fm_bank.specs.Interning.{Held}
-use Rattle.fm_bank.specs.Tests.{Tests}
 use Rattle.fm_bank.specs.declared.atom.Atom.{Atom}
 use Rattle.fm_bank.specs.declared.literal.Literal.{Literal}
 use Rattle.fm_bank.proofs.Closures.{more_follows}
 use Rattle.fm_cong.specs.Facts.{joined_by, pairs_of, sides, unequal_by, unequal_of, unequal_sides}
 use Rattle.fm_cong.specs.Held.{Held as Graph}
-use Rattle.fm_cong.specs.Tests.{AreTestsOf}
 use Rattle.fm_cong.specs.declared.fact.Fact.{Fact}
-use Rattle.fm_rounds.proofs.Members.{any_in, flat_in, in_any, in_either, in_filter, in_flat, in_left, in_right}
-use Rattle.fm_steps.specs.Content.{AreTestsBy, all_shapes, equal_pair, facts_in, ground_literals_of, is_size, literal_at, literals_of, pairs_in, predicate_term, terms_in}
+use Rattle.fm_rounds.proofs.Members.{flat_in, in_either, in_filter, in_flat}
+use Rattle.fm_steps.specs.Content.{all_shapes, equal_pair, facts_in, ground_literals_of, is_size, literal_at, literals_of, pairs_in, predicate_term, terms_in}
 use Rattle.fm_steps.proofs.Lists.{Has-contains, only_one}
 use Rattle.fm_trail.specs.declared.entry.Entry.{Entry}
 use Rattle.fm_readers.specs.Agreeing.{TestsAgree}
-use Rattle.fm_readers.specs.Graphs.{HasRead, IsGraphOf, fact_at, facts_read}
+use Rattle.fm_readers.specs.Graphs.{IsGraphOf, fact_at, facts_read}
 use Rattle.fm_readers.proofs.Reasons.{contains_has, fact_read, in_filter_map, lit_fact, named_is}
 
 -- A literal that joins a pair of the facts.

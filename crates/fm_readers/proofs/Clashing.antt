@@ -1,23 +1,21 @@
 -- A graph has a clash exactly where the literals that it has read have one.
-use Rattle.std.proofs.Common.{◌≡◌, ℕ, zero, suc, ◌+◌, ◌⊎◌, Bool, true, false, not, ◌&&◌, ◌||◌, if◌then◌else◌, List, [], ◌∷◌, Option, Some, None, inl, inr, refl, sym, ap, subst, ◌∙◌, arith}
+use Rattle.std.proofs.Common.{◌≡◌, ℕ, ◌⊎◌, Bool, true, false, not, ◌&&◌, ◌||◌, if◌then◌else◌, List, Some, inl, inr, refl, sym, ap, subst, ◌∙◌, arith}
 use Rattle.std.specs.Prelude.{◌==◌}
-use Rattle.std.specs.List.{All, Contains, list_any}
+use Rattle.std.specs.List.{All, list_any}
 use Rattle.std.proofs.lemmas.Bool.{and_from, and_parts, cases_Bool, eq-eqb, eqb-true, false_from_ne_true, false≢true, ne_eqb, or_cases, or_left, or_right}
-use Rattle.std.proofs.lemmas.List.Elements.{Contains-get_or}
 use Rattle.fm_base.specs.Resolution.{Has}
 use Rattle.fm_base.specs.declared.ids.TermId.{TermId}
-use Rattle.fm_bank.specs.Closure.{AreMerged, Follows, IsClosed, Shape, are_congruent, no, object, yes}
+use Rattle.fm_bank.specs.Closure.{AreMerged, Follows, IsClosed, Shape, no, object, yes}
 use Rattle.fm_bank.specs.Interning.{Held}
 use Rattle.fm_bank.specs.Tests.{Tests}
 use Rattle.fm_bank.specs.declared.atom.Atom.{Atom}
 use Rattle.fm_bank.specs.declared.literal.Literal.{Literal}
-use Rattle.fm_cong.specs.Clashes.{HasEqualSides, HasNoClash, HaveTwoTruths, IsClash, IsRead, term_by, term_read}
-use Rattle.fm_cong.specs.Facts.{joined_by, pairs_of, sides, unequal_by, unequal_of}
+use Rattle.fm_cong.specs.Clashes.{HasNoClash, HaveTwoTruths, IsClash, IsRead, term_by}
+use Rattle.fm_cong.specs.Facts.{joined_by, pairs_of, sides, unequal_by}
 use Rattle.fm_cong.specs.Held.{AreEqual}
 use Rattle.fm_cong.specs.Held.{Held as Graph}
 use Rattle.fm_cong.specs.Tests.{AreTestsOf}
 use Rattle.fm_cong.specs.declared.clash.Clash.{Clash}
-use Rattle.fm_cong.specs.declared.fact.Fact.{Fact}
 use Rattle.fm_rounds.proofs.Members.{any_in, in_any}
 use Rattle.fm_steps.specs.Content.{ground_literals_of, has_clash, pairs_in}
 use Rattle.fm_steps.proofs.Lists.{Has-contains, all_from, all_has}

@@ -1,9 +1,9 @@
 -- The classes of a sort, and its test, by the tests of a graph.
-use Rattle.std.proofs.Common.{◌≡◌, ℕ, zero, suc, ◌+◌, ◌<◌, ◌≤◌, Bool, true, false, not, ◌&&◌, ◌||◌, cond, List, [], ◌∷◌, length, map, take, get_or, Option, Some, None, inl, inr, refl, sym, ap, subst, ◌∙◌, arith}
+use Rattle.std.proofs.Common.{◌≡◌, ℕ, zero, suc, ◌+◌, ◌<◌, Bool, true, false, not, ◌&&◌, List, [], ◌∷◌, length, map, get_or, Option, Some, None, inl, inr, refl, sym, ap, subst, ◌∙◌, arith}
 use Rattle.std.specs.Prelude.{◌==◌, nat_lt, slice_get}
-use Rattle.std.specs.List.{Contains, filter, flat_map, list_all, list_any, range_with_len}
+use Rattle.std.specs.List.{Contains, filter, list_all, list_any, range_with_len}
 use Rattle.std.specs.Str.{bytes_eq}
-use Rattle.std.proofs.lemmas.Bool.{and_from, and_parts, cases_Bool, cases_lt, eq-eqb, eqb-true, false_from_ne_true, false≢true, lt-ltb, ltb-true, or_cases, or_left, or_right}
+use Rattle.std.proofs.lemmas.Bool.{and_from, and_parts, cases_lt, eq-eqb, eqb-true, false_from_ne_true, false≢true, lt-ltb, ltb-true, or_cases, or_left, or_right}
 use Rattle.std.proofs.lemmas.List.{length-map}
 use Rattle.fm_base.specs.Resolution.{Has}
 use Rattle.fm_base.specs.declared.ids.SortId.{SortId}
@@ -11,16 +11,16 @@ use Rattle.fm_base.specs.declared.ids.TermId.{TermId}
 use Rattle.fm_base.specs.declared.signature.Ty.{Ty}
 use Rattle.fm_bank.specs.Closure.{Shape, object, shape_at, shapes_of}
 use Rattle.fm_bank.specs.Interning.{Held}
-use Rattle.fm_bank.specs.Regions.{first_large, grown_regions, is_in, region_at, regions_at}
+use Rattle.fm_bank.specs.Regions.{first_large, grown_regions, is_in, regions_at}
 use Rattle.fm_bank.specs.Terms.{Term, is_type, numbers, type_of}
 use Rattle.fm_bank.specs.Tests.{Tests}
 use Rattle.fm_bank.proofs.Meanings.{typed_within}
 use Rattle.fm_cells.specs.Ascending.{IsAscending}
-use Rattle.fm_cong.specs.Held.{AreEqual, IsRegistered, is_registered, typed_as}
+use Rattle.fm_cong.specs.Held.{AreEqual, IsRegistered, typed_as}
 use Rattle.fm_cong.specs.Held.{Held as Graph}
 use Rattle.fm_cong.specs.Tests.{AreTestsOf}
 use Rattle.fm_cong.specs.Types.{AreOldest, IsOldest}
-use Rattle.fm_region.specs.Answers.{IsSplit, are_apart, test_of}
+use Rattle.fm_region.specs.Answers.{are_apart}
 use Rattle.fm_region.specs.Parts.{IsPart, Up}
 use Rattle.fm_region.specs.Picks.{IsPair as IsSortPair, IsPick, IsPickAt as IsSortPickAt}
 use Rattle.fm_region.specs.declared.picking.Pick.{Pick as SortPick}
@@ -35,7 +35,7 @@ use Rattle.fm_steps.proofs.Due.{all_in, in_all}
 use Rattle.fm_steps.proofs.Lists.{Has-contains, only_one}
 use Rattle.fm_trail.specs.declared.entry.Entry.{Entry}
 use Rattle.fm_readers.specs.Agreeing.{ClassesAgree, PicksAgree, pair_in, pick_in}
-use Rattle.fm_readers.specs.Graphs.{IsGraphOf, types_of}
+use Rattle.fm_readers.specs.Graphs.{IsGraphOf}
 use Rattle.fm_readers.proofs.Graphs.{registered_below}
 use Rattle.fm_readers.proofs.Reasons.{contains_has}
 

@@ -1,13 +1,12 @@
 -- Terms registered one after the other, literals read and taken back, and what stays as a bank grows.
 use Rattle.std.proofs.Common.{◌≡◌, ℕ, zero, suc, ◌+◌, ◌<◌, ◌≤◌, Bool, true, false, cond, List, [], ◌∷◌, ◌++◌, length, map, take, Option, Some, None, inl, inr, refl, sym, ap, subst, ◌∙◌, arith}
 use Rattle.std.specs.Prelude.{◌==◌, nat_le, slice_get}
-use Rattle.std.specs.List.{All, flat_map, list_any, range_with_len}
-use Rattle.std.proofs.lemmas.Bool.{and_parts, cases_Bool, cases_lt, eq-eqb, eqb-true, false≢true}
+use Rattle.std.specs.List.{flat_map, range_with_len}
+use Rattle.std.proofs.lemmas.Bool.{and_parts, cases_Bool, eq-eqb, eqb-true, false≢true}
 use Rattle.std.proofs.lemmas.Grind.{flat_map-append}
 use Rattle.std.proofs.lemmas.List.{append-nil, length-map, map-append, take-map}
 use Rattle.std.proofs.lemmas.List.FromFn.{length-range_with_len}
 use Rattle.fm_base.specs.Resolution.{Has}
-use Rattle.fm_base.specs.declared.ids.Lit.{Lit}
 use Rattle.fm_base.specs.declared.ids.AtomId.{AtomId}
 use Rattle.fm_base.specs.declared.ids.SortId.{SortId}
 use Rattle.fm_base.specs.declared.ids.TermId.{TermId}
@@ -16,7 +15,7 @@ use Rattle.fm_bank.specs.Closure.{Shape, shape_at, shapes_of}
 use Rattle.fm_bank.specs.Interning.{Held, IsFront, IsHeld, are_of_one_sort}
 use Rattle.fm_bank.specs.Terms.{Term, is_type, type_in, type_of}
 use Rattle.fm_bank.specs.declared.atom.Atom.{Atom}
-use Rattle.fm_cong.specs.Held.{HasArguments, IsRegistered, IsSettled, JoinsRegistered, NotesType, Registers, is_registered, typed_as, with_fact}
+use Rattle.fm_cong.specs.Held.{HasArguments, IsRegistered, JoinsRegistered, NotesType, Registers, is_registered, typed_as, with_fact}
 use Rattle.fm_cong.specs.Held.{Held as Graph}
 use Rattle.fm_cong.specs.declared.fact.Fact.{Fact}
 use Rattle.fm_rounds.proofs.Elements.{parts_of}
@@ -24,7 +23,7 @@ use Rattle.fm_rounds.proofs.Members.{any_in, flat_in, in_any, in_flat, in_range,
 use Rattle.fm_bank.proofs.Meanings.{typed_within}
 use Rattle.fm_steps.specs.Content.{is_size}
 use Rattle.fm_steps.proofs.Due.{atom_step}
-use Rattle.fm_steps.proofs.Lists.{Has-get, all_from, all_has}
+use Rattle.fm_steps.proofs.Lists.{Has-get, all_from}
 use Rattle.fm_steps.proofs.Written.{has_place}
 use Rattle.fm_trail.specs.Trail.{AreLevelled, decision, decisions_in, implied, is_decided, level_of, levels_of, up_to}
 use Rattle.fm_trail.specs.declared.entry.Entry.{Entry}
@@ -96,7 +95,7 @@ terms_next held n g h at r ty =
     }
 
 -- Literals on atoms of the bank can be read.
-of_sorts : (a b : Option Ty) → are_of_one_sort a b ≡ true → (r : SortId) × (is_type a (Ty.Of r) ≡ true) × (is_type b (Ty.Of r) ≡ true)
+pub of_sorts : (a b : Option Ty) → are_of_one_sort a b ≡ true → (r : SortId) × (is_type a (Ty.Of r) ≡ true) × (is_type b (Ty.Of r) ≡ true)
 of_sorts None b e = absurd (false≢true e)
 of_sorts (Some Ty.Bool) b e = absurd (false≢true e)
 of_sorts (Some (Ty.Of r)) b e = (r, eq-eqb r.0 r.0 refl, e)

@@ -1,12 +1,11 @@
 -- The bank knows the terms and the facts of a graph.
-use Rattle.std.proofs.Common.{◌≡◌, ℕ, List, [], ◌∷◌, map, Option, Some, None, inl, inr, refl, sym, ap, subst, ◌∙◌}
+use Rattle.std.proofs.Common.{◌≡◌, ℕ, List, Option, Some, None, refl, sym, ap, subst, ◌∙◌}
 use Rattle.std.specs.Prelude.{slice_get}
 use Rattle.std.specs.List.{range_with_len}
 use Rattle.fm_base.specs.Resolution.{Has}
 use Rattle.fm_base.proofs.Resolution.{mapped_has}
 use Rattle.fm_base.specs.declared.ids.Lit.{Lit}
 use Rattle.fm_bank.specs.Closure.{Shape, shape_at, shapes_of}
-use Rattle.fm_bank.specs.Interning.{Held}
 use Rattle.fm_bank.specs.Terms.{Term}
 use Rattle.fm_bank.specs.declared.atom.Atom.{Atom}
 use Rattle.fm_cong.specs.declared.fact.Fact.{Fact}

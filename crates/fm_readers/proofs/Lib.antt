@@ -1,8 +1,10 @@
 pub mod Agreeing
 pub mod Classing
 pub mod Clashing
+pub mod Conflicts
 pub mod Graphs
 pub mod Knowing
+pub mod Nodes
 pub mod Reading
 pub mod Reasons
 pub mod Sets

@@ -1,8 +1,8 @@
 -- Entries of level 0 read one after the other, as the tests read them.
-use Rattle.std.proofs.Common.{◌≡◌, ◌+◌, ◌++◌, ◌∷◌, if◌then◌else◌, [], length, ap, ◌∙◌, arith}
+use Rattle.std.proofs.Common.{◌≡◌, ◌++◌, ◌∷◌, if◌then◌else◌, [], length, ap, ◌∙◌, arith}
 use Rattle.fm_bank.specs.Interning.{Held}
 use Rattle.fm_cong.specs.Held.{Held as Graph}
-use Rattle.fm_trail.specs.Trail.{decisions_in, is_decided, level_of}
+use Rattle.fm_trail.specs.Trail.{decisions_in, is_decided}
 use Rattle.fm_trail.specs.declared.entry.Entry.{Entry}
 use Rattle.fm_trail.specs.declared.entry.Why.{Why}
 use Rattle.fm_trail.proofs.Going.{level_push}

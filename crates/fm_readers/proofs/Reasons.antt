@@ -1,25 +1,24 @@
 -- The literals of an explanation were read, and show that two nodes are equal.
-use Rattle.std.proofs.Common.{◌≡◌, ℕ, zero, suc, ◌+◌, ◌<◌, ◌⊎◌, Bool, true, false, not, cond, List, [], ◌∷◌, ◌++◌, length, map, Option, Some, None, inl, inr, refl, sym, ap, subst, ◌∙◌, arith}
+use Rattle.std.proofs.Common.{◌≡◌, ℕ, zero, suc, ◌<◌, Bool, true, false, not, cond, List, [], ◌∷◌, length, map, Option, Some, None, inl, inr, refl, sym, ap, subst, ◌∙◌, arith}
 use Rattle.std.specs.Prelude.{slice_get}
-use Rattle.std.specs.List.{All, Contains, cons_option, filter, filter_map, flat_map, list_any, range_with_len}
-use Rattle.std.proofs.lemmas.Bool.{cases_Bool, false≢true}
-use Rattle.fm_base.specs.Resolution.{AreDistinct, Has}
+use Rattle.std.specs.List.{All, Contains, cons_option, filter_map}
+use Rattle.fm_base.specs.Resolution.{Has}
 use Rattle.fm_base.specs.declared.ids.Lit.{Lit}
-use Rattle.fm_base.proofs.Resolution.{has_mapped, mapped_has}
-use Rattle.fm_bank.specs.Closure.{Follows, Shape, facts_of, no, object, shape_at, shapes_of, yes}
-use Rattle.fm_bank.specs.Interning.{Held, first_places, is_same_literal, with_literal}
-use Rattle.fm_bank.specs.Terms.{Term, numbers}
+use Rattle.fm_base.proofs.Resolution.{has_mapped}
+use Rattle.fm_bank.specs.Closure.{no, object, shapes_of, yes}
+use Rattle.fm_bank.specs.Interning.{Held, first_places}
+use Rattle.fm_bank.specs.Terms.{numbers}
 use Rattle.fm_bank.specs.declared.atom.Atom.{Atom}
 use Rattle.fm_bank.specs.declared.literal.Literal.{Literal}
 use Rattle.fm_bank.proofs.Closures.{more_follows}
 use Rattle.fm_cong.specs.Facts.{sides}
 use Rattle.fm_cong.specs.Held.{Held as Graph}
 use Rattle.fm_cong.specs.declared.fact.Fact.{Fact}
-use Rattle.fm_explain.specs.Explanations.{AreRead, Explains, IsRead}
+use Rattle.fm_explain.specs.Explanations.{Explains, IsRead}
 use Rattle.fm_explain.specs.Meant.{pairs_by, sides_at}
 use Rattle.fm_explain.specs.declared.explaining.Explanation.{Explanation}
-use Rattle.fm_rounds.proofs.Members.{filter_in, flat_in, in_flat, in_left, in_range, in_right, range_in}
-use Rattle.fm_steps.specs.Content.{all_shapes, equal_pair, facts_in, ground_literals_of, is_size, literal_at, literals_of, opposites, pairs_in, predicate_term, terms_in}
+use Rattle.fm_rounds.proofs.Members.{filter_in, flat_in, in_flat, in_left, in_right}
+use Rattle.fm_steps.specs.Content.{equal_pair, facts_in, ground_literals_of, is_size, literal_at, literals_of, opposites, pairs_in, predicate_term, terms_in}
 use Rattle.fm_steps.proofs.Lists.{Has-contains, all_has, only_one}
 use Rattle.fm_trail.specs.declared.entry.Entry.{Entry}
 use Rattle.fm_readers.specs.Graphs.{HasRead, fact_at, facts_read, named}
@@ -102,20 +101,8 @@ pair_named atoms lits p h =
     (flat_in (λ (k : Lit). literal_at k.positive (slice_get atoms k.atom.0)) l lits w.0 w.1 (subst (λ (o : Option Atom). Has (literal_at w.0.positive o) l) (sym s.1) (inl refl)))
     s.2
 
-shape_below : (terms : List Term) (n : ℕ) (o : Option Term) (s : Shape) → slice_get terms n ≡ o → Has (shape_at n o) s → n < length terms
-shape_below terms n None s e h = absurd h
-shape_below [] n (Some t) s e h = cc e
-shape_below (x ∷ xs) zero (Some t) s e h = omega arith
-shape_below (x ∷ xs) (suc n) (Some t) s e h = (let rec = shape_below xs n (Some t) (record { number = n; symbol = t.symbol; args = t.args }) e (inl refl) in omega (arith, rec))
-
-shape_there : (held : Held) (ns : List ℕ) (s : Shape) → Has (shapes_of held.terms ns) s → Has (all_shapes held) s
-shape_there held ns s h =
-    let w = in_flat (λ n. shape_at n (slice_get held.terms n)) s ns h in
-    let lt = shape_below held.terms w.0 (slice_get held.terms w.0) s refl w.2 in
-    flat_in (λ n. shape_at n (slice_get held.terms n)) s (range_with_len 0 (length held.terms)) w.0 (range_in w.0 0 (length held.terms) (omega arith) (omega (arith, lt))) w.2
-
-pub reasons : (held : Held) (es : List Entry) (g : Graph) (a b : ℕ) (x : Explanation) (old new : List Literal) → HasRead held.atoms es g → Explains g held a b x → new ≡ first_places old (opposites (named held.atoms x.lits.items)) → PutsReasons held es a b old new
-reasons held es g a b x old new r ex put = record {
+pub reasons : (held : Held) (es : List Entry) (g : Graph) (a b : ℕ) (x : Explanation) (old new : List Literal) → HasRead held.atoms es g → Explains g held a b x → All (λ n. n < length held.terms) (numbers x.support.items) → new ≡ first_places old (opposites (named held.atoms x.lits.items)) → PutsReasons held es a b old new x.support.items
+reasons held es g a b x old new r ex low put = record {
   because = named held.atoms x.lits.items;
   read = λ k h.
       let w = in_flat (λ (l : Lit). literal_at l.positive (slice_get held.atoms l.atom.0)) k x.lits.items h in
@@ -128,8 +115,9 @@ reasons held es g a b x old new r ex put = record {
       let sign : f.fact.lit.positive ≡ k.positive = ap (λ (l : Lit). l.positive) f.lit_is ∙ is.1 in
       subst (Has (ground_literals_of held.atoms es)) (λ i. record { positive = sign i; atom = atom i }) (fact_read held.atoms es f.fact has);
   shows =
-      more_follows (shapes_of held.terms (numbers x.support.items)) (pairs_by held.atoms x.lits.items) (all_shapes held) (facts_in (named held.atoms x.lits.items))
-      (λ s c. Has-contains (all_shapes held) s (shape_there held (numbers x.support.items) s (contains_has (shapes_of held.terms (numbers x.support.items)) s c)))
+      let shapes = shapes_of held.terms (numbers x.support.items) in
+      more_follows shapes (pairs_by held.atoms x.lits.items) shapes (facts_in (named held.atoms x.lits.items)) (λ s c. c)
       (λ p c. Has-contains (facts_in (named held.atoms x.lits.items)) p (pair_named held.atoms x.lits.items p (contains_has (pairs_by held.atoms x.lits.items) p c))) a b ex.shows;
   put = put;
+  there = low;
 }

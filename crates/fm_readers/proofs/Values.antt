@@ -1,6 +1,6 @@
 -- What a graph answers of an atom is what its tests decide.
-use Rattle.std.proofs.Common.{◌≡◌, ℕ, Bool, true, false, if◌then◌else◌, Option, Some, None, refl, sym, ap, ◌∙◌, inl, inr}
-use Rattle.std.proofs.lemmas.Bool.{cases_Bool, false_from_ne_true, false≢true}
+use Rattle.std.proofs.Common.{◌≡◌, ℕ, Bool, true, false, if◌then◌else◌, Option, Some, None, refl, sym, ap, ◌∙◌}
+use Rattle.std.proofs.lemmas.Bool.{false_from_ne_true, false≢true}
 use Rattle.fm_base.specs.declared.ids.TermId.{TermId}
 use Rattle.fm_bank.specs.Closure.{no, object, yes}
 use Rattle.fm_bank.specs.Tests.{Tests}

@@ -1,5 +1,5 @@
 -- What a graph answers is what the machine's definitions say of the literals that were read.
-use Rattle.std.specs.Prelude.{◌≡◌, ◌↔◌, ℕ, true, false, List, length, Option, Some, None}
+use Rattle.std.specs.Prelude.{◌≡◌, ◌↔◌, ℕ, true, false, List, Option, Some, None}
 use Rattle.fm_base.specs.declared.ids.SortId.{SortId}
 use Rattle.fm_base.specs.declared.ids.TermId.{TermId}
 use Rattle.fm_bank.specs.Interning.{Held}

@@ -1,6 +1,6 @@
 -- What the e-graph of a reader of equalities holds: all registered terms with their types, and the equality and predicate
 -- literals that it has read, now and as each level was opened that it has read.
-use Rattle.std.specs.Prelude.{◌≡◌, ℕ, Bool, true, false, List, [], ◌∷◌, ◌++◌, if◌then◌else◌, length, map, slice_get, Option, Some, None}
+use Rattle.std.specs.Prelude.{◌≡◌, ℕ, List, [], ◌∷◌, ◌++◌, if◌then◌else◌, length, map, slice_get, Option, Some, None}
 use Rattle.std.specs.List.{flat_map, range_with_len}
 use Rattle.fm_base.specs.declared.ids.Lit.{Lit}
 use Rattle.fm_base.specs.declared.ids.TermId.{TermId}

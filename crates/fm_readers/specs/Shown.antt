@@ -1,40 +1,51 @@
--- Lemmas of congruence closure: clauses that show an equality by opposites of literals that were read.
-use Rattle.std.specs.Prelude.{◌≡◌, ◌⊎◌, ℕ, Bool, List}
-use Rattle.std.specs.List.{Contains}
+-- Lemmas of congruence closure: clauses that show an equality by opposites of literals that were read, each with a support
+-- by which a line of a certificate shows the same.
+use Rattle.std.specs.Prelude.{◌≡◌, ◌⊎◌, ◌<◌, ℕ, Bool, true, List, length}
+use Rattle.std.specs.List.{All, Contains}
 use Rattle.fm_base.specs.Resolution.{AreDistinct, Has}
 use Rattle.fm_base.specs.declared.ids.TermId.{TermId}
-use Rattle.fm_bank.specs.Closure.{AreSides, Follows, object}
-use Rattle.fm_bank.specs.Interning.{Held, first_places}
+use Rattle.fm_bank.specs.Closure.{AreSides, Follows, object, shapes_of}
+use Rattle.fm_bank.specs.Interning.{Held, first_places, is_atom}
+use Rattle.fm_bank.specs.Terms.{numbers}
 use Rattle.fm_bank.specs.declared.atom.Atom.{Atom}
 use Rattle.fm_bank.specs.declared.literal.Literal.{Literal}
+use Rattle.fm_cert.specs.Lines.{IsConflict}
 use Rattle.fm_cong.specs.Facts.{pairs_of, unequal_of}
 use Rattle.fm_cong.specs.Held.{AreEqual}
 use Rattle.fm_cong.specs.Held.{Held as Graph}
 use Rattle.fm_readers.specs.declared.due.Unequal.{Unequal}
-use Rattle.fm_steps.specs.Content.{ShowsEquality, all_shapes, facts_in, ground_literals_of, opposites}
+use Rattle.fm_steps.specs.Content.{ShowsEquality, facts_in, ground_literals_of, opposites}
 use Rattle.fm_steps.specs.Lemmas.{AllRead, OthersRead}
 use Rattle.fm_steps.specs.Sizes.{lit}
 use Rattle.fm_trail.specs.declared.entry.Entry.{Entry}
 
 -- by opposites of literals of the entries alone
-pub record ShowsClash (held : Held) (es : List Entry) (ls : List Literal) : Type 0 where
+pub record ShowsClash (held : Held) (es : List Entry) (ls : List Literal) (support : List TermId) : Type 0 where
   pub read : AllRead (ground_literals_of held.atoms es) ls
   pub shows : ShowsEquality held ls
   pub once : AreDistinct ls
+  pub conflict : IsConflict held.sig held.terms ls (numbers support)
 
 -- by such and one literal more, which it decides
-pub record ShowsValue (held : Held) (es : List Entry) (a : Atom) (positive : Bool) (ls : List Literal) : Type 0 where
+pub record ShowsValue (held : Held) (es : List Entry) (a : Atom) (positive : Bool) (ls : List Literal) (support : List TermId) : Type 0 where
   pub has : Has ls (lit positive a)
   pub read : OthersRead (ground_literals_of held.atoms es) ls (lit positive a)
   pub shows : ShowsEquality held ls
   pub once : AreDistinct ls
+  pub conflict : IsConflict held.sig held.terms ls (numbers support)
 
--- Two nodes are equal because of some literals of the entries, and the opposites of these are put behind others.
-pub record PutsReasons (held : Held) (es : List Entry) (a b : ℕ) (old new : List Literal) : Type 0 where
+-- an atom over the terms of the bank
+abbrev pub IsAtom : Held → Atom → Type 0
+IsAtom held a = is_atom held.sig held.terms a ≡ true
+
+-- Two nodes are equal because of some literals of the entries, by congruence over the support alone, and the opposites of
+-- these are put behind others.
+pub record PutsReasons (held : Held) (es : List Entry) (a b : ℕ) (old new : List Literal) (support : List TermId) : Type 0 where
   pub because : List Literal
   pub read : (k : Literal) → Has because k → Has (ground_literals_of held.atoms es) k
-  pub shows : Follows (all_shapes held) (facts_in because) a b
+  pub shows : Follows (shapes_of held.terms (numbers support)) (facts_in because) a b
   pub put : new ≡ first_places old (opposites because)
+  pub there : All (λ n. n < length held.terms) (numbers support)
 
 -- Of the sides of a pair one is equal to each of two terms.
 pub record IsBetween (g : Graph) (a b : TermId) (pair : TermId × TermId) (w : Unequal) : Type 0 where

@@ -7,7 +7,7 @@ ghost use Rattle.fm_cong.specs.Held.{AreEqual, AreUnequal, IsRegistered, IsSettl
 ghost use Rattle.fm_cong.specs.Tests.{AreTestsOf};
 ghost use Rattle.fm_explain.specs.Explanations.{IsKnownBy, truth_node};
 ghost use Rattle.fm_readers.specs.Graphs.{HasRead, HasTerms};
-ghost use Rattle.fm_readers.specs.Shown.{HasNoSides, IsBetween, IsWitness, ShowsClash, ShowsValue};
+ghost use Rattle.fm_readers.specs.Shown.{HasNoSides, IsAtom, IsBetween, IsWitness, ShowsClash, ShowsValue};
 ghost use Rattle.fm_steps.specs.Content.{decides};
 ghost use Rattle.fm_trail.specs.declared.entry.Entry.{Entry as TheEntry};
 
@@ -17,6 +17,17 @@ use fm_base::{AtomId, Memory, TermId};
 use fm_cong::{Clash, Egraph};
 use indexmap::IndexSet;
 use std::alloc::Global;
+
+/// A lemma of congruence closure, with a support: terms by which a line of a certificate shows the same.
+#[derive(Drop)]
+pub struct Lemma {
+    /// The clause: its literals, each once.
+    pub lits: Vec<Literal>,
+    /// The terms on the paths of the explanation: with the terms of the literals, and the subterms of both, these are all
+    /// that congruence closure needs to show that the literals can't all be false. No order is promised, and a term may stand
+    /// there twice.
+    pub support: Vec<TermId>,
+}
 
 fn all_of(alloc: Global, lits: &IndexSet<Literal>) -> Result<Vec<Literal>, Memory>
     ensures { IfOk result (λ v. v.items ≡ lits.now.keys) }
@@ -33,17 +44,19 @@ fn equality_lemma(
     bank: &Bank,
     a: TermId,
     b: TermId,
-) -> Result<Vec<Literal>, Memory>
+) -> Result<Lemma, Memory>
+    requires atom { IsAtom bank.now (TheAtom.Equal a b) }
     requires terms { HasTerms bank.now (length bank.now.terms) graph.now }
     requires known { IsKnownBy graph.now bank.now }
     requires equal { AreEqual graph.now (object a.0) (object b.0) }
-    ensures { (es : List TheEntry) → HasRead bank.now.atoms es graph.now → IfOk result (λ v. ShowsValue bank.now es (TheAtom.Equal a b) true v.items) }
+    ensures { (es : List TheEntry) → HasRead bank.now.atoms es graph.now → IfOk result (λ m. ShowsValue bank.now es (TheAtom.Equal a b) true m.lits.items m.support.items) }
 {
+    bank.one_number_per_term();
     let mut lits = IndexSet::new(alloc);
     put(&mut lits, true, Atom::Equal(a, b))?;
-    put_equal(alloc, graph, bank, &mut lits, a, b)?;
-    let list = all_of(alloc, &lits)?;
-    Ok(list)
+    let support = put_equal(alloc, graph, bank, &mut lits, a, b)?;
+    let lits = all_of(alloc, &lits)?;
+    Ok(Lemma { lits, support })
 }
 
 // A true predicate term and a false one are equal.
@@ -53,18 +66,19 @@ fn truths_lemma(
     bank: &Bank,
     p: TermId,
     q: TermId,
-) -> Result<Vec<Literal>, Memory>
+) -> Result<Lemma, Memory>
     requires terms { HasTerms bank.now (length bank.now.terms) graph.now }
     requires known { IsKnownBy graph.now bank.now }
     requires truths { HaveTwoTruths graph.now p q }
-    ensures { (es : List TheEntry) → HasRead bank.now.atoms es graph.now → IfOk result (λ v. ShowsClash bank.now es v.items) }
+    ensures { (es : List TheEntry) → HasRead bank.now.atoms es graph.now → IfOk result (λ m. ShowsClash bank.now es m.lits.items m.support.items) }
 {
+    bank.one_number_per_term();
     let mut lits = IndexSet::new(alloc);
     put(&mut lits, false, Atom::Pred(p))?;
     put(&mut lits, true, Atom::Pred(q))?;
-    put_equal(alloc, graph, bank, &mut lits, p, q)?;
-    let list = all_of(alloc, &lits)?;
-    Ok(list)
+    let support = put_equal(alloc, graph, bank, &mut lits, p, q)?;
+    let lits = all_of(alloc, &lits)?;
+    Ok(Lemma { lits, support })
 }
 
 /// A lemma that shows a clash of what a graph has read: opposites of literals that were read and that contradict each other
@@ -74,18 +88,19 @@ pub fn clash_lemma(
     graph: &Egraph,
     bank: &Bank,
     clash: Clash,
-) -> Result<Vec<Literal>, Memory>
+) -> Result<Lemma, Memory>
     requires terms { HasTerms bank.now (length bank.now.terms) graph.now }
     requires known { IsKnownBy graph.now bank.now }
     requires clash { IsClash graph.now clash }
-    ensures { (es : List TheEntry) → HasRead bank.now.atoms es graph.now → IfOk result (λ v. ShowsClash bank.now es v.items) }
+    ensures { (es : List TheEntry) → HasRead bank.now.atoms es graph.now → IfOk result (λ m. ShowsClash bank.now es m.lits.items m.support.items) }
 {
+    bank.one_number_per_term();
     match clash {
         Clash::Truth(p, q) => truths_lemma(alloc, graph, bank, p, q),
         Clash::Facts(atom) => match bank.atom_of(atom) {
             Atom::Equal(a, b) => {
-                let lits = equality_lemma(alloc, graph, bank, a, b)?;
-                Ok(lits)
+                let lemma = equality_lemma(alloc, graph, bank, a, b)?;
+                Ok(lemma)
             }
             Atom::Pred(_) => unreachable!(),
             Atom::Card(_, _) => unreachable!(),
@@ -171,19 +186,22 @@ fn difference_lemma(
     a: TermId,
     b: TermId,
     seen: Unequal,
-) -> Result<Vec<Literal>, Memory>
+) -> Result<Lemma, Memory>
+    requires atom { IsAtom bank.now (TheAtom.Equal a b) }
     requires terms { HasTerms bank.now (length bank.now.terms) graph.now }
     requires known { IsKnownBy graph.now bank.now }
     requires seen { IsWitness graph.now a b seen }
-    ensures { (es : List TheEntry) → HasRead bank.now.atoms es graph.now → IfOk result (λ v. ShowsValue bank.now es (TheAtom.Equal a b) false v.items) }
+    ensures { (es : List TheEntry) → HasRead bank.now.atoms es graph.now → IfOk result (λ m. ShowsValue bank.now es (TheAtom.Equal a b) false m.lits.items m.support.items) }
 {
+    bank.one_number_per_term();
     let mut lits = IndexSet::new(alloc);
     put(&mut lits, false, Atom::Equal(a, b))?;
     put(&mut lits, true, Atom::Equal(seen.left, seen.right))?;
-    put_equal(alloc, graph, bank, &mut lits, a, seen.near)?;
-    put_equal(alloc, graph, bank, &mut lits, b, seen.far)?;
-    let list = all_of(alloc, &lits)?;
-    Ok(list)
+    let mut support = put_equal(alloc, graph, bank, &mut lits, a, seen.near)?;
+    let far = put_equal(alloc, graph, bank, &mut lits, b, seen.far)?;
+    support.extend_from_slice(far.as_slice())?;
+    let lits = all_of(alloc, &lits)?;
+    Ok(Lemma { lits, support })
 }
 
 // The predicate term is joined with yes, or with no.
@@ -193,17 +211,19 @@ fn truth_lemma(
     bank: &Bank,
     term: TermId,
     truth: bool,
-) -> Result<Vec<Literal>, Memory>
+) -> Result<Lemma, Memory>
+    requires atom { IsAtom bank.now (TheAtom.Pred term) }
     requires terms { HasTerms bank.now (length bank.now.terms) graph.now }
     requires known { IsKnownBy graph.now bank.now }
     requires equal { AreEqual graph.now (object term.0) (truth_node truth) }
-    ensures { (es : List TheEntry) → HasRead bank.now.atoms es graph.now → IfOk result (λ v. ShowsValue bank.now es (TheAtom.Pred term) truth v.items) }
+    ensures { (es : List TheEntry) → HasRead bank.now.atoms es graph.now → IfOk result (λ m. ShowsValue bank.now es (TheAtom.Pred term) truth m.lits.items m.support.items) }
 {
+    bank.one_number_per_term();
     let mut lits = IndexSet::new(alloc);
     put(&mut lits, truth, Atom::Pred(term))?;
-    put_truth(alloc, graph, bank, &mut lits, term, truth)?;
-    let list = all_of(alloc, &lits)?;
-    Ok(list)
+    let support = put_truth(alloc, graph, bank, &mut lits, term, truth)?;
+    let lits = all_of(alloc, &lits)?;
+    Ok(Lemma { lits, support })
 }
 
 /// A lemma that shows the value of an atom of the bank that the literals read decide: the literal, with opposites of literals
@@ -214,12 +234,12 @@ pub fn value_lemma(
     bank: &Bank,
     atom: AtomId,
     positive: bool,
-) -> Result<Vec<Literal>, Memory>
+) -> Result<Lemma, Memory>
     requires atom { atom.0 < length bank.now.atoms }
     requires terms { HasTerms bank.now (length bank.now.terms) graph.now }
     requires known { IsKnownBy graph.now bank.now }
     requires decided { (a : TheAtom) (t : TheTests) → slice_get bank.now.atoms atom.0 ≡ Some a → AreTestsOf graph.now t → decides t a positive ≡ true }
-    ensures { (a : TheAtom) (es : List TheEntry) → slice_get bank.now.atoms atom.0 ≡ Some a → HasRead bank.now.atoms es graph.now → IfOk result (λ v. ShowsValue bank.now es a positive v.items) }
+    ensures { (a : TheAtom) (es : List TheEntry) → slice_get bank.now.atoms atom.0 ≡ Some a → HasRead bank.now.atoms es graph.now → IfOk result (λ m. ShowsValue bank.now es a positive m.lits.items m.support.items) }
 {
     bank.one_number_per_term();
     graph.has_tests();

@@ -11,6 +11,6 @@ mod shown;
 mod tests;
 
 pub use deciding::decided;
-pub use due::{clash_lemma, value_lemma};
+pub use due::{Lemma, clash_lemma, value_lemma};
 pub use graph::{go_back, graph_over, read, register};
 pub use laws::{graphs_agree, graphs_stay};

@@ -37,7 +37,7 @@ fn put_opposites(lits: &mut IndexSet<Literal>, bank: &Bank, explained: &[Lit]) -
     Ok(())
 }
 
-// Puts the opposites of the literals that explain why two terms are equal.
+// Puts the opposites of the literals that explain why two terms are equal, and gives the terms on the paths between these.
 pub(crate) fn put_equal(
     alloc: Global,
     graph: &Egraph,
@@ -45,18 +45,22 @@ pub(crate) fn put_equal(
     lits: &mut IndexSet<Literal>,
     a: TermId,
     b: TermId,
-) -> Result<(), Memory>
+) -> Result<Vec<TermId>, Memory>
     requires terms { HasTerms bank.now (length bank.now.terms) graph.now }
     requires known { IsKnownBy graph.now bank.now }
+    requires a { a.0 < length bank.now.terms }
+    requires b { b.0 < length bank.now.terms }
     requires equal { AreEqual graph.now (object a.0) (object b.0) }
-    ensures { (es : List TheEntry) → HasRead bank.now.atoms es graph.now → OnOk result (PutsReasons bank.now es (object a.0) (object b.0) lits.old.keys lits.new.keys) }
+    ensures { (es : List TheEntry) → HasRead bank.now.atoms es graph.now → IfOk result (λ v. PutsReasons bank.now es (object a.0) (object b.0) lits.old.keys lits.new.keys v.items) }
 {
+    bank.one_number_per_term();
+    let _ = graph.links();
     let explained = explain(alloc, graph, bank, a, b)?;
     put_opposites(lits, bank, explained.lits.as_slice())?;
-    Ok(())
+    Ok(explained.support)
 }
 
-// Puts the opposites of the literals that explain why a predicate term is true, or false.
+// Puts the opposites of the literals that explain why a predicate term is true, or false, and gives the terms as `put_equal`.
 pub(crate) fn put_truth(
     alloc: Global,
     graph: &Egraph,
@@ -64,13 +68,16 @@ pub(crate) fn put_truth(
     lits: &mut IndexSet<Literal>,
     term: TermId,
     truth: bool,
-) -> Result<(), Memory>
+) -> Result<Vec<TermId>, Memory>
     requires terms { HasTerms bank.now (length bank.now.terms) graph.now }
     requires known { IsKnownBy graph.now bank.now }
+    requires term { term.0 < length bank.now.terms }
     requires equal { AreEqual graph.now (object term.0) (truth_node truth) }
-    ensures { (es : List TheEntry) → HasRead bank.now.atoms es graph.now → OnOk result (PutsReasons bank.now es (object term.0) (truth_node truth) lits.old.keys lits.new.keys) }
+    ensures { (es : List TheEntry) → HasRead bank.now.atoms es graph.now → IfOk result (λ v. PutsReasons bank.now es (object term.0) (truth_node truth) lits.old.keys lits.new.keys v.items) }
 {
+    bank.one_number_per_term();
+    let _ = graph.links();
     let explained = explain_truth(alloc, graph, bank, term, truth)?;
     put_opposites(lits, bank, explained.lits.as_slice())?;
-    Ok(())
+    Ok(explained.support)
 }

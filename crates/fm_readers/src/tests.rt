@@ -2,7 +2,7 @@ ghost use Rattle.std.specs.Prelude.{◌≡◌, IfOk, OnOk};
 ghost use Rattle.fm_readers.specs.Tested.{HasReadSome};
 ghost use Rattle.fm_trail.specs.declared.entry.Why.{Why as TheWhy};
 
-use crate::{clash_lemma, decided, graph_over, graphs_stay, read, value_lemma};
+use crate::{Lemma, clash_lemma, decided, graph_over, graphs_stay, read, value_lemma};
 use fm_bank::{Atom, Bank, Literal};
 use fm_base::{AtomId, Lit, Memory, Rank, Sig, SortId, SymId, TermId, Ty};
 use fm_cong::Egraph;
@@ -25,21 +25,21 @@ const TERMS: &[u8] = b"a.b.c.fafbpapb";
 // The atoms by their numbers: equalities of two terms, predicate terms, and a bound on the sum.
 const ATOMS: &[u8] = b"abbc12P.Q.ac..";
 
-// The literals read, the atom asked about, and the lemma that shows its value, or the clash where none is asked.
-const CASES: [(&[u8], u8, &[u8]); 8] = [
+// The literals read, the atom asked about, the lemma that shows its value, or the clash where none is asked, and the support.
+const CASES: [(&[u8], u8, &[u8], &[u8]); 8] = [
     // f(a) and f(b) are equal where a and b are
-    (b"0+", b'2', b"2+0-"),
+    (b"0+", b'2', b"2+0-", b"12ab"),
     // a and c are apart where b is equal to a and unequal to c
-    (b"0+1-", b'5', b"5-1+0-"),
+    (b"0+1-", b'5', b"5-1+0-", b"abc"),
     // truth goes over to equal terms
-    (b"3+0+", b'4', b"4+3-0-"),
-    (b"0+4-", b'3', b"3-4+0-"),
+    (b"3+0+", b'4', b"4+3-0-", b"PQab"),
+    (b"0+4-", b'3', b"3-4+0-", b"PQab"),
     // a bound on the sum says nothing of terms, and nothing is decided
-    (b"6+1-", b'2', b""),
+    (b"6+1-", b'2', b"", b""),
     // clashes: two truths, and unequal terms that are equal
-    (b"3+4-0+", b'?', b"3-4+0-"),
-    (b"2-0+", b'?', b"2+0-"),
-    (b"0+1+", b'?', b""),
+    (b"3+4-0+", b'?', b"3-4+0-", b"PQab"),
+    (b"2-0+", b'?', b"2+0-", b"12ab"),
+    (b"0+1+", b'?', b"", b""),
 ];
 
 fn place(letters: &[u8], letter: u8) -> usize {
@@ -154,6 +154,13 @@ fn read_graph(rt: &impl Abort, alloc: Global, bank: &Bank, facts: &[u8]) -> Resu
     Ok(graph)
 }
 
+fn no_lemma(alloc: Global) -> Lemma {
+    Lemma {
+        lits: Vec::new(alloc),
+        support: Vec::new(alloc),
+    }
+}
+
 // The lemma that shows a clash, or the value of an atom; none where there is nothing to show.
 fn lemma(
     rt: &impl Abort,
@@ -161,21 +168,21 @@ fn lemma(
     graph: &Egraph,
     bank: &Bank,
     asked: u8,
-) -> Result<Vec<Literal>, Memory>
+) -> Result<Lemma, Memory>
     requires { HasReadSome bank.now graph.now }
 {
     graphs_stay();
     if asked == b'?' {
         return match graph.clash() {
             Some(clash) => clash_lemma(alloc, graph, bank, clash),
-            None => Ok(Vec::new(alloc)),
+            None => Ok(no_lemma(alloc)),
         };
     }
     let atom = AtomId(usize::from(asked.saturating_sub(b'0')));
     assert!(rt; atom.0 < bank.atoms());
     match decided(graph, bank, atom) {
         Some(value) => value_lemma(alloc, graph, bank, atom, value),
-        None => Ok(Vec::new(alloc)),
+        None => Ok(no_lemma(alloc)),
     }
 }
 
@@ -202,14 +209,31 @@ fn are_literals(bank: &Bank, lits: &[Literal], wanted: &[u8]) -> bool {
     lits.len() == wanted.len() / 2
 }
 
+// Whether these are the terms, in any order.
+fn are_terms(terms: &[TermId], wanted: &[u8]) -> bool {
+    for letter in wanted {
+        if !terms.contains(&term(*letter)) {
+            return false;
+        }
+    }
+    terms.len() == wanted.len()
+}
+
 #[test]
 fn lemmas_show_what_was_read(rt: HostRuntime) -> Result<(), Fail> {
     let bank = filled(&rt, rt.alloc())?;
     for row in 0..CASES.len() {
-        let (facts, asked, wanted) = CASES[row];
+        let (facts, asked, wanted, support) = CASES[row];
         let graph = read_graph(&rt, rt.alloc(), &bank, facts)?;
-        let lits = lemma(&rt, rt.alloc(), &graph, &bank, asked)?;
-        assert!(rt; are_literals(&bank, lits.as_slice(), wanted), "row {row}");
+        let lemma = lemma(&rt, rt.alloc(), &graph, &bank, asked)?;
+        assert!(rt;
+            are_literals(&bank, lemma.lits.as_slice(), wanted),
+            "row {row}"
+        );
+        assert!(rt;
+            are_terms(lemma.support.as_slice(), support),
+            "support of row {row}"
+        );
     }
     Ok(())
 }

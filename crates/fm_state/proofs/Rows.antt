@@ -1,16 +1,19 @@
 -- Size atoms that are known in a row: behind the first number that isn't known none is, and the least that isn't false.
-use Rattle.std.proofs.Common.{◌≡◌, ℕ, zero, suc, ◌+◌, ◌<◌, ◌≤◌, ◌&&◌, Bool, true, false, not, cond, List, [], ◌++◌, length, drop, get_or, inl, inr, sym, ap, ◌∙◌, arith}
+use Rattle.std.proofs.Common.{◌≡◌, ℕ, zero, suc, ◌+◌, ◌<◌, ◌≤◌, ◌&&◌, Bool, true, false, not, cond, List, [], ◌++◌, length, drop, get_or, Some, None, inl, inr, refl, sym, ap, ◌∙◌, arith}
+use Rattle.std.specs.Prelude.{Option, option_and_then}
 use Rattle.std.specs.List.{flat_map, position_or_len, range_with_len}
 use Rattle.std.proofs.lemmas.Bool.{cases_Bool, cases_lt, false≢true}
 use Rattle.std.proofs.lemmas.List.FromFn.{get_or-range_with_len, length-range_with_len}
 use Rattle.std.proofs.lemmas.List.Sums.{position_or_len_is}
 use Rattle.fm_base.specs.declared.ids.Reader.{Reader}
+use Rattle.fm_bank.specs.Interning.{find_atom}
 use Rattle.fm_steps.specs.Bounds.{IsInRow}
-use Rattle.fm_steps.specs.Lemmas.{Due, card_order, is_known}
+use Rattle.fm_steps.specs.Lemmas.{Due, card_order, is_known, is_some_number}
 use Rattle.fm_steps.specs.Menu.{card_order_at, offer_for}
 use Rattle.fm_steps.specs.Rows.{Offer}
 use Rattle.fm_steps.specs.Sizes.{card, holds, least_open}
-use Rattle.fm_steps.specs.State.{State}
+use Rattle.fm_steps.specs.State.{State, value_by}
+use Rattle.fm_trail.specs.Trail.{is_value}
 use Rattle.fm_state.proofs.Filling.{drop_at, past_range, range_at}
 
 unknown_later : (s : State) (u : ℕ) → IsInRow s u → (i k : ℕ) → i ≤ k → is_known s (card u i) ≡ false → is_known s (card u k) ≡ false
@@ -56,3 +59,15 @@ open_at s u i found is within before here =
     (λ k lt. ap test (element k (omega (arith, lt, within))) ∙ ap not (before k lt))
     (λ lt. let lt' : i < n = omega (arith, long, lt) in ap test (element i lt') ∙ ap not (here lt')) in
     is ∙ ap (λ m. m + 1) (sym place)
+
+-- what has a value is known
+known_by : (s : State) (o : Option ℕ) → is_value (option_and_then (value_by s.trail.entries) o) false ≡ true → is_some_number o ≡ true
+known_by s None h = absurd (cc h)
+known_by s (Some n) h = refl
+
+-- a false bound on a sort isn't above the bound on the sum
+pub false_is_low : (s : State) (u k : ℕ) (b : Bool) → IsInRow s u → b ≡ holds s false (card u k) → b ≡ true → k ≤ s.bound
+false_is_low s u k b row is h =
+    let top = (row.known k).0 (known_by s (find_atom s.held.atoms (card u k)) (sym is ∙ h)) in
+    let low = row.low in
+    omega (arith, top, low)

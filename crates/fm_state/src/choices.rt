@@ -106,7 +106,7 @@ fn put_free_decisions(state: &State, offers: &mut Vec<Offer>, limit: usize) -> R
 
 fn put_size(state: &State, offers: &mut Vec<Offer>, sort: SortId) -> Result<(), Memory>
     requires row { IsInRow state.now sort.0 }
-    requires room { state.now.bound + 2 < 2 ^ 64 }
+    requires room { state.now.bound + 1 < 2 ^ 64 }
     ensures { OnOk result (offers_in offers.new.items ≡ offers_in offers.old.items ++ size_decision state.now sort.0) }
 {
     let atom = Atom::Card(sort, least_open(state, sort));
@@ -118,7 +118,7 @@ fn put_size(state: &State, offers: &mut Vec<Offer>, sort: SortId) -> Result<(), 
 
 fn put_sizes(state: &State, offers: &mut Vec<Offer>, limit: usize) -> Result<(), Memory>
     requires rows { (u : ℕ) → u < state.now.held.sig.sorts → IsInRow state.now u }
-    requires room { state.now.bound + 2 < 2 ^ 64 }
+    requires room { state.now.bound + 1 < 2 ^ 64 }
     ensures { OnOk result (IsPutBehind limit offers.old.items offers.new.items (size_decisions state.now)) }
 {
     for sort in 0..state.bank().sig().sorts {
@@ -133,7 +133,7 @@ fn put_sizes(state: &State, offers: &mut Vec<Offer>, limit: usize) -> Result<(),
 // The decisions of sizes that come before those of other atoms.
 fn put_first(state: &State, offers: &mut Vec<Offer>, limit: usize) -> Result<(), Memory>
     requires rows { (u : ℕ) → u < state.now.held.sig.sorts → IsInRow state.now u }
-    requires room { state.now.bound + 2 < 2 ^ 64 }
+    requires room { state.now.bound + 1 < 2 ^ 64 }
     ensures { OnOk result (IsPutBehind limit offers.old.items offers.new.items (first_decisions state.now)) }
 {
     if state.is_free() {
@@ -206,7 +206,7 @@ impl State {
     /// What may be decided: sizes first, and where there are none, atoms of clauses without a true literal.
     pub fn decisions_offered(&self, limit: usize) -> Result<Vec<Offer>, Memory>
         requires rows { (u : ℕ) → u < self.now.held.sig.sorts → IsInRow self.now u }
-        requires room { self.now.bound + 2 < 2 ^ 64 }
+        requires room { self.now.bound + 1 < 2 ^ 64 }
         ensures { IfOk result (λ v. offers_in v.items ≡ take limit (decisions_of self.now)) }
     {
         let mut offers = Vec::new(self.alloc);

@@ -128,7 +128,7 @@ pub(crate) fn greatest_false(state: &State, sort: SortId) -> Option<u64>
 // The least k from 1 on whose bound on the sort isn't false.
 pub(crate) fn least_open(state: &State, sort: SortId) -> u64
     requires row { IsInRow state.now sort.0 }
-    requires room { state.now.bound + 2 < 2 ^ 64 }
+    requires room { state.now.bound + 1 < 2 ^ 64 }
     ensures { result ≡ least_open_in state.now sort.0 }
 {
     let mut found = 1;

@@ -1,9 +1,19 @@
-use Rattle.std.proofs.Common.{refl, false}
+use Rattle.std.proofs.Common.{refl}
 use Rattle.std.proofs.lemmas.Bool.{false≢true}
 use Rattle.fm_bank.specs.declared.atom.Atom.{Atom}
 use Rattle.fm_readers.proofs.Graphs.{joins_registered}
+use Rattle.fm_readers.proofs.Nodes.{atom_at}
 use Rattle.fm_readers.proofs.Shows.{equal_by, truth_by, unequal_at}
 use Rattle.fm_readers.proofs.due.value_lemma.Goals as goal
+
+pub equality_lemma-requires-clause-atom : goal.equality_lemma-requires-clause-atom
+equality_lemma-requires-clause-atom c = atom_at c.args.bank.now c.one_number_per_term.ensures.held c.args.atom.0 (Atom.Equal c.in-Equal.a c.in-Equal.b) c.in-Equal.ensures
+
+pub difference_lemma-requires-clause-atom : goal.difference_lemma-requires-clause-atom
+difference_lemma-requires-clause-atom c = atom_at c.args.bank.now c.one_number_per_term.ensures.held c.args.atom.0 (Atom.Equal c.in-Equal.a c.in-Equal.b) c.in-Equal.ensures
+
+pub truth_lemma-requires-clause-atom : goal.truth_lemma-requires-clause-atom
+truth_lemma-requires-clause-atom c = atom_at c.args.bank.now c.one_number_per_term.ensures.held c.args.atom.0 (Atom.Pred c.in-Pred.term) c.in-Pred.ensures
 
 pub equality_lemma-requires-clause-equal : goal.equality_lemma-requires-clause-equal
 equality_lemma-requires-clause-equal c =

@@ -1,4 +1,4 @@
-use Rattle.std.proofs.Common.{◌≡◌, Bool, Some, refl, sym, ap, subst, ◌∙◌}
+use Rattle.std.proofs.Common.{refl, ap, subst}
 use Rattle.std.specs.Prelude.{slice_get}
 use Rattle.fm_bank.specs.declared.atom.Atom.{Atom}
 use Rattle.fm_cong.specs.Held.{JoinsRegistered}

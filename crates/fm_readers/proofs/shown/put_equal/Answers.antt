@@ -1,14 +1,22 @@
-use Rattle.std.proofs.Common.{List, map, ap, ◌∙◌}
+use Rattle.std.proofs.Common.{List, ap, ◌∙◌, arith}
 use Rattle.fm_base.specs.declared.ids.Lit.{Lit}
 use Rattle.fm_bank.specs.Closure.{object}
 use Rattle.fm_bank.specs.Interning.{first_places}
 use Rattle.fm_steps.specs.Content.{opposites}
 use Rattle.fm_readers.specs.Graphs.{named}
+use Rattle.fm_readers.proofs.Nodes.{support_below}
 use Rattle.fm_readers.proofs.Reasons.{reasons}
 use Rattle.fm_readers.proofs.shown.put_equal.Goals as goal
 
 pub returns : goal.returns
 returns c = λ es read.
+    let held = c.args.bank.now in
+    let g = c.args.graph.now in
     let x = c.in_ok-explained.explained in
-    reasons c.args.bank.now es c.args.graph.now (object c.args.a.0) (object c.args.b.0) x c.args.lits.now.keys c.put_opposites.new.lits.keys read c.in_ok-explained.ensures
-    (c.in_ok-put_opposites.ensures ∙ ap (λ (ls : List Lit). first_places c.args.lits.now.keys (opposites (named c.args.bank.now.atoms ls))) c.as_slice.ensures.value)
+    let a = object c.args.a.0 in
+    let b = object c.args.b.0 in
+    let left = c.requires.a in
+    let right = c.requires.b in
+    let low = support_below held c.one_number_per_term.ensures.held g c.requires.known c.links.result.now c.links.ensures.explained a b (omega (arith, left)) (omega (arith, right)) x c.in_ok-explained.ensures.explanation in
+    reasons held es g a b x c.args.lits.now.keys c.put_opposites.new.lits.keys read c.in_ok-explained.ensures low
+    (c.in_ok-put_opposites.ensures ∙ ap (λ (ls : List Lit). first_places c.args.lits.now.keys (opposites (named held.atoms ls))) c.as_slice.ensures.value)

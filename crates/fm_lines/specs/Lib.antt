@@ -1,0 +1,5 @@
+pub mod Answers
+pub mod Ending
+pub mod First
+pub mod Laws
+pub mod Naming
