@@ -15,3 +15,5 @@ pub mod Summing
 pub mod Starting
 pub mod Registered
 pub mod FirstSum
+pub mod Constants
+pub mod Searching

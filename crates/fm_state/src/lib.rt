@@ -10,6 +10,9 @@ mod lemmas;
 mod numbering;
 mod offer;
 mod orders;
+mod searchable;
+#[cfg(test)]
+mod searchable_tests;
 mod sizes;
 mod standing;
 mod start;
@@ -19,4 +22,5 @@ mod wanted;
 
 pub use lemmas::{bound_order, card_order};
 pub use offer::{Due, Offer};
+pub use searchable::is_searchable;
 pub use standing::State;

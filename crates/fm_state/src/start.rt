@@ -18,7 +18,7 @@ use fm_sat::Store;
 use fm_trail::Trail;
 use std::alloc::Global;
 
-fn put_clauses(bank: &mut Bank, clauses: &[Clause]) -> Result<(), Memory>
+pub(crate) fn put_clauses(bank: &mut Bank, clauses: &[Clause]) -> Result<(), Memory>
     requires { list_all (is_sorted_clause bank.old.sig) clauses.now ≡ true }
     ensures { OnOk result (bank.new ≡ with_terms bank.old (clauses_ground_grown clauses.now bank.old.terms)) }
 {
@@ -28,7 +28,7 @@ fn put_clauses(bank: &mut Bank, clauses: &[Clause]) -> Result<(), Memory>
     Ok(())
 }
 
-fn is_of(ty: Ty, sort: SortId) -> bool
+pub(crate) fn is_of(ty: Ty, sort: SortId) -> bool
     ensures { result ≡ is_type (Some ty) (TheTy.Of sort) }
 {
     match ty {
@@ -48,14 +48,14 @@ fn has_term_of(bank: &Bank, sort: SortId) -> bool
     false
 }
 
-fn has_none_of(bank: &Bank, sort: SortId) -> bool
+pub(crate) fn has_none_of(bank: &Bank, sort: SortId) -> bool
     ensures { result ≡ is_bare_in bank.now.sig bank.now.terms sort.0 }
 {
     !has_term_of(bank, sort)
 }
 
 // How many sorts have no term.
-fn bare_sorts(bank: &Bank) -> usize
+pub(crate) fn bare_sorts(bank: &Bank) -> usize
     ensures { result ≡ bare_count_in bank.now.sig bank.now.terms }
 {
     let mut count = 0;
